@@ -1,0 +1,4 @@
+pub mod Bytes
+pub mod Names
+pub mod Element
+pub mod Values
