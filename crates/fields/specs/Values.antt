@@ -91,5 +91,5 @@ unless None v = Ok v
 unless (Some b) v = Err b
 
 -- what a field's bytes hold, or the first element that is refused
-abbrev pub field-reading : Field → List ℕ → Result FieldSet BadElement
+unfoldable pub field-reading : Field → List ℕ → Result FieldSet BadElement
 field-reading f s = unless (field-bad f s) (field-set f s)

@@ -16,7 +16,7 @@ use Rattle.fields.specs.declared.bytes.Part.{Part}
 use Rattle.fields.specs.declared.reader.BadElement.{BadElement}
 use Rattle.fields.specs.declared.reader.FieldSet.{FieldSet}
 use Rattle.fields.specs.Bytes.{Piece, piece, find-in, has, back-piece}
-use Rattle.fields.specs.Values.{any-takes, split, standing, unless, field-set, holds}
+use Rattle.fields.specs.Values.{any-takes, split, standing, unless, field-set, field-reading, holds}
 use Rattle.fields.proofs.Find.{find-le}
 use Rattle.fields.proofs.Parts.{bad-step, left-some, left-none, bad-next, any-next, any-last, standing-same}
 use Rattle.fields.proofs.reader.read_field.Needs as need
@@ -27,6 +27,7 @@ elements-holds c =
 
 -- the element that is refused is the first bad one
 pub returns-in-Err : need.returns-in-Err
+unfolding field-reading
 returns-in-Err c =
     let f = c .args .f in
     let s = c .args .s .now in
@@ -61,6 +62,7 @@ elements-again c =
     )
 
 pub returns-in-None : need.returns-in-None
+unfolding field-reading
 returns-in-None c =
     let f = c .args .f in
     let s = c .elements .rest .text .now in

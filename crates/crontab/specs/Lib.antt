@@ -1,0 +1,5 @@
+pub mod Refusal
+pub mod Words
+pub mod Job
+pub mod Line
+pub mod File
