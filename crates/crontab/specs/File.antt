@@ -60,3 +60,8 @@ file-reading s = cond (ltb longest-file (length s)) (Err FileTooLong) (lines-rea
 -- a command's bytes, if it lies in the file
 abbrev pub bytes-of : List ℕ → Command → Option (List ℕ)
 bytes-of s c = cond (leb (c .at + c .length) (length s)) (Some (take (c .length) (drop (c .at) s))) None
+
+-- the command of a job line, if there is such a line
+abbrev pub command-of : List ℕ → Option Job → Option (List ℕ)
+command-of s None = None
+command-of s (Some j) = bytes-of s (j .command)

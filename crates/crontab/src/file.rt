@@ -23,8 +23,8 @@ const LONGEST_FILE: usize = 16384;
 // The jobs of a file, which keeps the commands.
 #[derive(Drop)]
 pub struct Crontab<'f> {
-    file: &'f [u8],
-    jobs: Vec<Job>,
+    pub(crate) file: &'f [u8],
+    pub(crate) jobs: Vec<Job>,
 }
 
 impl<T: Drop> From<Refused<T>> for Refusal as RefusalFromRefused {

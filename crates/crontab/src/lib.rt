@@ -1,4 +1,5 @@
 // A crontab read from its bytes: its job lines, or the first place that cannot be taken.
+mod commands;
 mod file;
 mod job;
 mod line;
