@@ -16,7 +16,7 @@ use Rattle.std.proofs.shelf.Lists.{append-nil, append-assoc, drop-drop, length-
 use Rattle.scan.specs.Scan.{before-first, is}
 use Rattle.scan.specs.declared.Kind.the-variants.{Byte}
 use Rattle.scan.proofs.First.{first-le}
-use Rattle.fields.specs.Values.{longer}
+use Rattle.fields.specs.Bytes.{longer}
 use Rattle.crontab.specs.declared.refusal.Refusal.{Refusal}
 use Rattle.crontab.specs.declared.job.Job.{Job}
 use Rattle.crontab.specs.Line.{and-then, line-reading}

@@ -13,7 +13,7 @@ use Rattle.std.specs.declared.option.Option.{Option}
 use Rattle.std.specs.declared.option.Option.the-variants.{Some, None}
 use Rattle.std.specs.declared.result.Result.{Result}
 use Rattle.std.specs.declared.result.Result.the-variants.{Ok, Err}
-use Rattle.fields.specs.Values.{longer}
+use Rattle.fields.specs.Bytes.{longer}
 use Rattle.crontab.specs.declared.refusal.Refusal.{Refusal}
 use Rattle.crontab.specs.declared.refusal.Refusal.the-variants.{FileTooLong}
 use Rattle.crontab.specs.declared.job.Command.{Command}

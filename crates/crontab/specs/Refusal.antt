@@ -3,18 +3,12 @@ use Prim.Native.Nat.{ℕ}
 use Rattle.std.specs.declared.option.Option.{Option}
 use Rattle.std.specs.declared.option.Option.the-variants.{Some, None}
 use Rattle.fields.specs.Element.{field-number}
+use Rattle.fields.specs.Values.{fault-number}
 use Rattle.fields.specs.declared.element.Field.{Field}
-use Rattle.fields.specs.declared.reader.Fault.{Fault}
-use Rattle.fields.specs.declared.reader.Fault.the-variants.{NoSuchElement, OutOfRange, Turned}
 use Rattle.crontab.specs.declared.refusal.Place.{Place}
 use Rattle.crontab.specs.declared.refusal.Code.{Code}
 use Rattle.crontab.specs.declared.refusal.Refusal.{Refusal}
 use Rattle.crontab.specs.declared.refusal.Refusal.the-variants.{FileTooLong, LineTooLong, ForbiddenByte, TooManyJobs, Element, Missing, Memory}
-
-abbrev pub fault-number : Fault → ℕ
-fault-number NoSuchElement = 5
-fault-number OutOfRange = 6
-fault-number Turned = 7
 
 -- a number with a place beside it
 abbrev pub placed : ℕ → Place → Option Code

@@ -1,4 +1,4 @@
-pub mod Find
+pub mod Cut
 pub mod Name
 pub mod Add
 pub mod Judge

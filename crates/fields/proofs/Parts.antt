@@ -15,7 +15,8 @@ use Rattle.fields.specs.declared.element.Field.{Field}
 use Rattle.fields.specs.declared.element.Field.the-variants.{Minute, Hour, Day, Month, Weekday}
 use Rattle.fields.specs.declared.reader.Fault.{Fault}
 use Rattle.fields.specs.Bytes.{find-in, has, front, back}
-use Rattle.fields.specs.Values.{standing, split, longer, verdict, after, taken, takes, first-bad, any-takes}
+use Rattle.fields.specs.Values.{standing, verdict, after, taken, takes, first-bad, any-takes}
+use Rattle.fields.specs.Bytes.{split, longer}
 use Rattle.std.proofs.shelf.Lists.{length-take-le}
 
 -- the first part, and the parts of the rest

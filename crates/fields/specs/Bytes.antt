@@ -5,14 +5,15 @@ use mathlib.Core.List.{List, [], _∷_}
 use lib.Dec.{eqb, ltb, leb}
 use lib.ListN.{length, getD, take, drop}
 use denote.Ref.{now}
+use Rattle.scan.specs.Scan.{before-first, is}
+use Rattle.scan.specs.declared.Kind.the-variants.{Byte}
 use Rattle.std.specs.declared.option.Option.{Option}
 use Rattle.std.specs.declared.option.Option.the-variants.{Some, None}
 use Rattle.fields.specs.declared.bytes.Part.{Part}
 
 -- the place of the first byte b, or the length
 abbrev pub find-in : ℕ → List ℕ → ℕ
-find-in b [] = 0
-find-in b (x ∷ xs) = cond (eqb x b) 0 (suc (find-in b xs))
+find-in b xs = before-first (is (Byte b)) xs
 
 abbrev pub has : ℕ → List ℕ → Bool
 has b xs = ltb (find-in b xs) (length xs)
@@ -23,6 +24,15 @@ front b xs = take (find-in b xs) xs
 
 abbrev pub back : ℕ → List ℕ → List ℕ
 back b xs = drop (suc (find-in b xs)) xs
+
+-- the parts of a text between bytes b
+abbrev pub longer : ℕ → List (List ℕ) → List (List ℕ)
+longer x [] = (x ∷ []) ∷ []
+longer x (p ∷ ps) = (x ∷ p) ∷ ps
+
+abbrev pub split : ℕ → List ℕ → List (List ℕ)
+split b [] = [] ∷ []
+split b (x ∷ xs) = cond (eqb x b) ([] ∷ split b xs) (longer x (split b xs))
 
 -- bytes of a field and the place where they begin in it
 pub record Piece : Type 0 where

@@ -17,7 +17,14 @@ use Rattle.fields.specs.declared.reader.Fault.the-variants.{NoSuchElement, Out
 use Rattle.fields.specs.declared.reader.BadElement.{BadElement}
 use Rattle.fields.specs.declared.reader.FieldSet.{FieldSet}
 use Rattle.fields.specs.declared.values.Values.{Values}
+use Rattle.fields.specs.Bytes.{split}
 use Rattle.fields.specs.Element.{low, high, element}
+
+-- the numbers by which faults are refused
+abbrev pub fault-number : Fault → ℕ
+fault-number NoSuchElement = 5
+fault-number OutOfRange = 6
+fault-number Turned = 7
 
 -- a number lies outside of what the field takes
 abbrev pub outside : Field → ℕ → Bool
@@ -40,15 +47,6 @@ takes s v = leb (s .from) v && (leb v (s .to) && eqb ((v - s .from) % s .step) 0
 abbrev pub taken : Result Span Fault → ℕ → Bool
 taken (Ok s) v = takes s v
 taken (Err k) v = false
-
--- the parts of a text between bytes b
-abbrev pub longer : ℕ → List (List ℕ) → List (List ℕ)
-longer x [] = (x ∷ []) ∷ []
-longer x (p ∷ ps) = (x ∷ p) ∷ ps
-
-abbrev pub split : ℕ → List ℕ → List (List ℕ)
-split b [] = [] ∷ []
-split b (x ∷ xs) = cond (eqb x b) ([] ∷ split b xs) (longer x (split b xs))
 
 -- the first refused element of those that begin at a place, with its own place
 abbrev pub after : Result Span Fault → ℕ → Option BadElement → Option BadElement

@@ -4,25 +4,15 @@ ghost use Prim.Native.Nat.{_+_, _<_, _≤_, _^_};
 ghost use mathlib.Core.Bool.{true, false};
 ghost use mathlib.Core.Path.{_≡_};
 ghost use Rattle.std.specs.Options.{Cases};
-ghost use Rattle.fields.specs.Bytes.{back-piece, find-in, front-piece, has, number as number-of, piece};
+ghost use Rattle.fields.specs.Bytes.{back-piece, front-piece, has, number as number-of, piece};
+use scan::Kind;
+use scan::scan;
 
 // Bytes of a field and the place where they begin in it.
 #[derive(Clone, Copy)]
 pub struct Part<'a> {
     pub at: usize,
     pub text: &'a [u8],
-}
-
-// The place of the first byte `b`, or the length.
-fn find(s: &[u8], b: u8) -> usize
-    ensures { λ r. ⌜ r ≡ find-in b (now (s .entry)) ⌝ }
-{
-    for (i, x) in s.iter().enumerate() {
-        if *x == b {
-            return i;
-        }
-    }
-    s.len()
 }
 
 // What stands before and after the first byte `b`.
@@ -35,7 +25,7 @@ pub(crate) fn cut(p: Part<'_>, b: u8) -> Option<(Part<'_>, Part<'_>)>
         × (piece (q .1) ≡ back-piece b (piece (p .entry)))
         × (length (now (q .0 .text)) + 1 + length (now (q .1 .text)) ≡ length (now (p .entry .text)))) ⌝ }
 {
-    let i = find(p.text, b);
+    let i = scan(p.text, 0, Kind::Byte(b));
     if i < p.text.len() {
         let front = Part {
             at: p.at,

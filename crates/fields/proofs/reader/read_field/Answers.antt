@@ -16,8 +16,11 @@ use Rattle.fields.specs.declared.bytes.Part.{Part}
 use Rattle.fields.specs.declared.reader.BadElement.{BadElement}
 use Rattle.fields.specs.declared.reader.FieldSet.{FieldSet}
 use Rattle.fields.specs.Bytes.{Piece, piece, find-in, has, back-piece}
-use Rattle.fields.specs.Values.{any-takes, split, standing, unless, field-set, field-reading, holds}
-use Rattle.fields.proofs.Find.{find-le}
+use Rattle.fields.specs.Values.{any-takes, standing, unless, field-set, field-reading, holds}
+use Rattle.fields.specs.Bytes.{split}
+use Rattle.scan.proofs.First.{first-le}
+use Rattle.scan.specs.Scan.{is}
+use Rattle.scan.specs.declared.Kind.the-variants.{Byte}
 use Rattle.fields.proofs.Parts.{bad-step, left-some, left-none, bad-next, any-next, any-last, standing-same}
 use Rattle.fields.proofs.reader.read_field.Needs as need
 
@@ -55,7 +58,7 @@ elements-again c =
     let text = ap (λ (q : Piece). q .text) p in
     let l = left-some s (m .text .now) (r .0) (ap (λ (q : Piece). q .text) (r .1)) in
     let at : m .at ≡ c .elements .rest .at + (find-in 44 s + 1) = ap (λ (q : Piece). q .at) (r .1) in
-    let moved : c .elements .rest .at + (length e + 1) ≡ m .at = let long : length e ≡ find-in 44 s = ap length text ∙ length-take-le (find-in 44 s) s (find-le 44 s) in omega arith in (
+    let moved : c .elements .rest .at + (length e + 1) ≡ m .at = let long : length e ≡ find-in 44 s = ap length text ∙ length-take-le (find-in 44 s) s (first-le (is (Byte 44)) s) in omega arith in (
       omega (arith, c .elements .inv .0, r .2),
       sym (bad-next f s e (c .in-Ok .span) text (c .in-Ok .ensures tt .answer) _ l (c .elements .rest .at) (m .at) moved) ∙ c .elements .inv .1,
       λ k h. any-next f s e (c .in-Ok .span) text (c .in-Ok .ensures tt .answer) _ l k _ _ _ (c .add .ensures k h) (c .elements .inv .2 k h),

@@ -3,7 +3,8 @@ use mathlib.Core.Path.{_≡_}
 use mathlib.Core.Bool.{false, _||_}
 use lib.ListN.{length, getD}
 use denote.Ref.{now}
-use Rattle.fields.specs.Values.{split, first-bad, any-takes, field-bad}
+use Rattle.fields.specs.Values.{first-bad, any-takes, field-bad}
+use Rattle.fields.specs.Bytes.{split}
 use Rattle.fields.proofs.reader.read_field.Given as given
 
 abbrev pub Inv-elements : given.InvT-elements
