@@ -18,11 +18,8 @@ use Rattle.crontab.specs.declared.refusal.Refusal.{Refusal}
 use Rattle.crontab.specs.declared.refusal.Refusal.the-variants.{FileTooLong}
 use Rattle.crontab.specs.declared.job.Command.{Command}
 use Rattle.crontab.specs.declared.job.Job.{Job}
+use Rattle.crontab.specs.Limits.{longest-file}
 use Rattle.crontab.specs.Line.{and-then, line-reading}
-
--- the longest file
-abbrev pub longest-file : ℕ
-longest-file = 16384
 
 -- the lines of a text: byte 10 ends a line, and so does the text's end
 abbrev pub lines : List ℕ → List (List ℕ)

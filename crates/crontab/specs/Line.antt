@@ -18,14 +18,8 @@ use Rattle.crontab.specs.declared.refusal.Refusal.{Refusal}
 use Rattle.crontab.specs.declared.refusal.Refusal.the-variants.{LineTooLong, ForbiddenByte, TooManyJobs, Element, Missing}
 use Rattle.crontab.specs.declared.job.Command.{Command}
 use Rattle.crontab.specs.declared.job.Job.{Job}
+use Rattle.crontab.specs.Limits.{longest-line, most-jobs}
 use Rattle.crontab.specs.Words.{begin, word, past, forbidden-in, idle}
-
--- the longest line, and how many job lines a file may have
-abbrev pub longest-line : ℕ
-longest-line = 1000
-
-abbrev pub most-jobs : ℕ
-most-jobs = 64
 
 -- what follows if the first thing was not refused
 abbrev pub and-then : {X Y E : Type 0} → Result X E → (X → Result Y E) → Result Y E

@@ -6,19 +6,18 @@ ghost use Prim.Native.Nat.{_≤_};
 ghost use Rattle.std.specs.Results.{Cases};
 ghost use Rattle.std.specs.Of.Vec.{vec-items, vec-len};
 ghost use Rattle.std.specs.declared.result.Result.the-variants.{Ok, Err};
+ghost use Rattle.crontab.specs.Limits.{longest-file};
 ghost use Rattle.crontab.specs.Line.{line-reading};
 ghost use Rattle.crontab.specs.declared.refusal.Refusal.the-variants.{Memory};
 ghost use Rattle.crontab.specs.File.{Added, file-reading, lines, lines-reading};
 use crate::job::Job;
+use crate::limits::LONGEST_FILE;
 use crate::line::read_line;
 use crate::refusal::Refusal;
 use scan::Kind;
 use scan::scan;
 use std::alloc::Global;
 use std::alloc::Refused;
-
-// The longest file.
-const LONGEST_FILE: usize = 16384;
 
 // The jobs of a file, which keeps the commands.
 #[derive(Drop)]
@@ -37,7 +36,7 @@ impl<T: Drop> From<Refused<T>> for Refusal as RefusalFromRefused {
 
 // Reads line `n`, which begins at place `start` of the file, and adds its job, if it has one.
 fn add_line(jobs: &mut Vec<Job>, n: usize, start: usize, line: &[u8]) -> Result<(), Refusal>
-    requires { ⌜ start ≤ 16384 ⌝ }
+    requires { ⌜ start ≤ longest-file ⌝ }
     ensures { λ r. ⌜ Cases r
         (λ _. Added n start (now (line .entry)) (now (jobs .entry)) (now (jobs .exit)))
         (λ e. (e ≡ Memory) ⊎ (line-reading n start (vec-len (now (jobs .entry))) (now (line .entry)) ≡ Err e)) ⌝ }
@@ -54,7 +53,7 @@ fn add_line(jobs: &mut Vec<Job>, n: usize, start: usize, line: &[u8]) -> Result<
 
 // The jobs of the file's lines, or the first refusal.
 fn read_lines(heap: Global, file: &[u8]) -> Result<Vec<Job>, Refusal>
-    requires { ⌜ length (now file) ≤ 16384 ⌝ }
+    requires { ⌜ length (now file) ≤ longest-file ⌝ }
     ensures { λ r. ⌜ Cases r
         (λ v. lines-reading 1 0 0 (lines (now (file .entry))) ≡ Ok (vec-items v))
         (λ e. (e ≡ Memory) ⊎ (lines-reading 1 0 0 (lines (now (file .entry))) ≡ Err e)) ⌝ }

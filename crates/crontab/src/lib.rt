@@ -2,6 +2,7 @@
 mod commands;
 mod file;
 mod job;
+mod limits;
 mod line;
 mod refusal;
 

@@ -4,10 +4,13 @@ ghost use mathlib.Core.Path.{_≡_};
 ghost use Prim.Native.Nat.{_+_, _≤_};
 ghost use Rattle.std.specs.Results.{Cases};
 ghost use Rattle.std.specs.declared.result.Result.the-variants.{Ok, Err};
+ghost use Rattle.crontab.specs.Limits.{longest-file, longest-line};
 ghost use Rattle.crontab.specs.Line.{command-after, field-after, field-at, job-reading, line-reading, words-before};
 ghost use Rattle.crontab.specs.Words.{end, idle, past};
 use crate::job::Command;
 use crate::job::Job;
+use crate::limits::LONGEST_LINE;
+use crate::limits::MOST_JOBS;
 use crate::refusal::Place;
 use crate::refusal::Refusal;
 use fields::Field;
@@ -16,15 +19,9 @@ use fields::read_field;
 use scan::Kind;
 use scan::scan;
 
-// The longest line.
-const LONGEST_LINE: usize = 1000;
-
-// How many job lines a file may have.
-const MOST_JOBS: usize = 64;
-
 // The word that begins at or after place `at` of line `n`, as a field, and where it ends.
 fn field_after(f: Field, n: usize, s: &[u8], at: usize) -> Result<(FieldSet, usize), Refusal>
-    requires { ⌜ at ≤ length (now s) ⌝ ∗ ⌜ length (now s) ≤ 1000 ⌝ }
+    requires { ⌜ at ≤ length (now s) ⌝ ∗ ⌜ length (now s) ≤ longest-line ⌝ }
     ensures { λ r. ⌜ Cases r
         (λ p. (field-after f n (now (s .entry)) at ≡ Ok (p .0))
         × (p .1 ≡ end (now (s .entry)) at)
@@ -54,7 +51,7 @@ fn field_after(f: Field, n: usize, s: &[u8], at: usize) -> Result<(FieldSet, usi
 
 // A field of line `n`, from where the word before it ends.
 fn field_at(f: Field, n: usize, s: &[u8], at: usize) -> Result<(FieldSet, usize), Refusal>
-    requires { ⌜ at ≡ past (now s) (words-before f) ⌝ ∗ ⌜ at ≤ length (now s) ⌝ ∗ ⌜ length (now s) ≤ 1000 ⌝ }
+    requires { ⌜ at ≡ past (now s) (words-before f) ⌝ ∗ ⌜ at ≤ length (now s) ⌝ ∗ ⌜ length (now s) ≤ longest-line ⌝ }
     ensures { λ r. ⌜ Cases r
         (λ p. (field-at f n (now (s .entry)) ≡ Ok (p .0))
         × (p .1 ≡ past (now (s .entry)) (words-before f + 1))
@@ -66,7 +63,7 @@ fn field_at(f: Field, n: usize, s: &[u8], at: usize) -> Result<(FieldSet, usize)
 
 // The command that begins at or after place `at` of line `n`, which begins at place `start` of the file.
 fn command_after(n: usize, start: usize, s: &[u8], at: usize) -> Result<Command, Refusal>
-    requires { ⌜ at ≤ length (now s) ⌝ ∗ ⌜ length (now s) ≤ 1000 ⌝ ∗ ⌜ start ≤ 16384 ⌝ }
+    requires { ⌜ at ≤ length (now s) ⌝ ∗ ⌜ length (now s) ≤ longest-line ⌝ ∗ ⌜ start ≤ longest-file ⌝ }
     ensures { λ r. ⌜ r ≡ command-after n start (now (s .entry)) at ⌝ }
 {
     let begin = scan(s, at, Kind::Other);
@@ -84,7 +81,7 @@ fn command_after(n: usize, start: usize, s: &[u8], at: usize) -> Result<Command,
 
 // The job of line `n`, or its first refusal from the left.
 fn read_job(n: usize, start: usize, s: &[u8]) -> Result<Job, Refusal>
-    requires { ⌜ length (now s) ≤ 1000 ⌝ ∗ ⌜ start ≤ 16384 ⌝ }
+    requires { ⌜ length (now s) ≤ longest-line ⌝ ∗ ⌜ start ≤ longest-file ⌝ }
     ensures { λ r. ⌜ r ≡ job-reading n start (now (s .entry)) ⌝ }
 {
     let (minute, at) = field_at(Field::Minute, n, s, 0)?;
@@ -119,7 +116,7 @@ pub(crate) fn read_line(
     jobs: usize,
     s: &[u8],
 ) -> Result<Option<Job>, Refusal>
-    requires { ⌜ start ≤ 16384 ⌝ }
+    requires { ⌜ start ≤ longest-file ⌝ }
     ensures { λ r. ⌜ r ≡ line-reading n start jobs (now (s .entry)) ⌝ }
 {
     if s.len() > LONGEST_LINE {
