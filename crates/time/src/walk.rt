@@ -20,18 +20,6 @@ impl Position {
         Some(Position { minute, line })
     }
 
-    pub fn minute(self) -> Minute
-        ensures { λ r. ⌜ r ≡ self .minute ⌝ }
-    {
-        self.minute
-    }
-
-    pub fn line(self) -> u8
-        ensures { λ r. ⌜ r ≡ self .line ⌝ }
-    {
-        self.line
-    }
-
     // The place of the position in their order.
     pub fn rank(self) -> u64
         ensures { λ r. ⌜ r ≡ rank self ⌝ }
