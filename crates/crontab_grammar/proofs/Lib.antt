@@ -1,0 +1,13 @@
+pub mod Firsts
+pub mod Lines
+pub mod Words
+pub mod Idle
+pub mod Fields
+pub mod Jobs
+pub mod Readings
+pub mod Orders
+pub mod Places
+pub mod LineFaults
+pub mod FileFaults
+pub mod Bounds
+pub mod Found
