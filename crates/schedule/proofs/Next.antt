@@ -48,7 +48,9 @@ found due a before u l d m None is at few late early low passed hit here = absur
 found due a before u l d m (Some p) is at few late early low passed hit here =
     let minute : p .minute .0 ≡ u = ap (λ (x : Minute). x .0) (is .0) ∙ at in
     let line : p .line ≡ d = is .1 in
-    let up : u * lines + d ≡ rank p = omega (arith, minute, line) in
-    (omega (arith, up), omega (arith, minute),
-    (λ i. due (minute i) (line i)) ∙ hit,
-    subst (None-due due a) up (none-more due a u l d (omega arith) passed here))
+    let up : u * lines + d ≡ rank p = omega (arith, minute, line) in (
+      omega (arith, up),
+      omega (arith, minute),
+      (λ i. due (minute i) (line i)) ∙ hit,
+      subst (None-due due a) up (none-more due a u l d (omega arith) passed here),
+    )

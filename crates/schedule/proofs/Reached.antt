@@ -41,17 +41,17 @@ some-finds (suc n) p m x t h k = go (p m) refl (some-finds n p (m - 1) x t)
     go true e ih = refl
     go false e ih =
         elim (ℕ-discrete x m) [
-          yes q ↦ absurd (both-ways (p m) e (sym (ap p q) ∙ t))
-        | no q ↦ let a : x ≤ m - 1 = omega arith in ih a (omega arith)
+          | yes q ↦ absurd (both-ways (p m) e (sym (ap p q) ∙ t))
+          | no q ↦ let a : x ≤ m - 1 = omega arith in ih a (omega arith)
         ]
 
 -- above the greatest of n labels before u are exactly the numbers above each of them
-highest-above : (off : ℕ → ℤ) (n u k m : ℕ) → highest off n u < m → k < n → label off (u - suc k) < m
+pub highest-above : (off : ℕ → ℤ) (n u k m : ℕ) → highest off n u < m → k < n → label off (u - suc k) < m
 highest-above off zero u k m h lt = absurd (omega arith)
 highest-above off (suc n) u k m h lt =
     elim (ℕ-discrete k n) [
-      yes q ↦ subst (λ (x : ℕ). label off (u - suc x) < m) (sym q) (omega arith)
-    | no q ↦ highest-above off n u k m (omega arith) (omega arith)
+      | yes q ↦ subst (λ (x : ℕ). label off (u - suc x) < m) (sym q) (omega arith)
+      | no q ↦ highest-above off n u k m (omega arith) (omega arith)
     ]
 
 highest-below : (off : ℕ → ℤ) (n u m : ℕ) → 0 < m → ((k : ℕ) → k < n → label off (u - suc k) < m) → highest off n u < m
@@ -77,7 +77,7 @@ module _ (n : ℕ) (off : ℕ → ℤ) (p : ℕ → Bool) (u : ℕ) where
         number = r .number;
         passes = r .passes;
         shown = r .below;
-        unshown = λ k h. highest-above off n u k (r .number) (omega (arith, r .near, r .below)) h
+        unshown = λ k h. highest-above off n u k (r .number) (omega (arith, r .near, r .below)) h;
       }
 
   fixed-back : 0 < n → Reaches → some-of (label off u - highest off n u) p (label off u) ≡ true
@@ -107,6 +107,7 @@ due-by false p off u = (there, back)
     there t =
         let d = fixed-there look-back off p u t in
         (d .number, d .passes, record { now-reached = d .shown; not-before = d .unshown })
+
     back : Due-by false p off u → some-of (label off u - highest off look-back u) p (label off u) ≡ true
     back d =
         fixed-back look-back off p u (lit< tt)

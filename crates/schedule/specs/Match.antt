@@ -17,7 +17,7 @@ parts m = record {
   hour = m % 1440 / 60;
   day = date (day-number m) .day;
   month = date (day-number m) .month;
-  weekday = weekday (day-number m)
+  weekday = weekday (day-number m);
 }
 
 -- v is one of a field's values

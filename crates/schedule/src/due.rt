@@ -38,11 +38,9 @@ fn any_matches(job: &Job, above: Label, to: Label) -> bool
 impl Moment {
     // What is to be known of minute `u`, found by the zone's offsets.
     pub fn at<Z: Zone>(z: &Z, u: Minute) -> Result<Moment, Refusal>
-        ensures {
-            λ r. ⌜ Cases r
-                (λ m. (served (u .0) ≡ true) × (m .window ≡ window-at (offsets (now (z .entry))) (u .0)))
-                (λ e. (served (u .0) ≡ false) × (e ≡ OutOfRange u)) ⌝
-        }
+        ensures { λ r. ⌜ Cases r
+            (λ m. (served (u .0) ≡ true) × (m .window ≡ window-at (offsets (now (z .entry))) (u .0)))
+            (λ e. (served (u .0) ≡ false) × (e ≡ OutOfRange u)) ⌝ }
     {
         let window = fresh(z, u)?;
         let parts = parts_of(window.to);
@@ -52,10 +50,8 @@ impl Moment {
     // Does a fixed line match a label that the minute is the first to reach? Mostly that is one label, whose parts
     // are at hand.
     fn reaches(&self, job: &Job) -> bool
-        ensures {
-            λ r. ⌜ r ≡ some-of (now (self .entry) .window .to .0 - now (self .entry) .window .above .0)
-                (matches-label (now (job .entry))) (now (self .entry) .window .to .0) ⌝
-        }
+        ensures { λ r. ⌜ r ≡ some-of (now (self .entry) .window .to .0 - now (self .entry) .window .above .0)
+            (matches-label (now (job .entry))) (now (self .entry) .window .to .0) ⌝ }
     {
         let to = self.window.to;
         if to.count() <= self.window.above.count() {
@@ -66,10 +62,8 @@ impl Moment {
 
     // Is the line due?
     pub fn is_due(&self, job: &Job) -> bool
-        ensures {
-            λ r. ⌜ r ≡ due-in (wild (now (job .entry))) (matches-label (now (job .entry)))
-                (now (self .entry) .window .above .0) (now (self .entry) .window .to .0) ⌝
-        }
+        ensures { λ r. ⌜ r ≡ due-in (wild (now (job .entry))) (matches-label (now (job .entry)))
+            (now (self .entry) .window .above .0) (now (self .entry) .window .to .0) ⌝ }
     {
         if job.is_wild() {
             matches(job, self.parts)

@@ -4,6 +4,7 @@ mod matching;
 mod moment;
 mod parts;
 mod search;
+
 pub use due::due_at;
 pub use due::due_means_what_the_rule_says;
 pub use matching::matches;

@@ -22,14 +22,12 @@ use zone::Zone;
 
 // The first line from `from` on that is due.
 fn first_due(moment: &Moment, jobs: &[Job], from: u8) -> Option<u8>
-    ensures {
-        λ r. ⌜ Cases r
-            ((k : ℕ) → from ≤ k → k < lines → line-due (now (moment .entry) .window) (nth (now (jobs .entry)) k) ≡ false)
-            (λ l. (from ≤ l) × (l < lines)
-                × (line-due (now (moment .entry) .window) (nth (now (jobs .entry)) l) ≡ true)
-                × ((k : ℕ) → from ≤ k → k < l →
-                    line-due (now (moment .entry) .window) (nth (now (jobs .entry)) k) ≡ false)) ⌝
-    }
+    ensures { λ r. ⌜ Cases r
+        ((k : ℕ) → from ≤ k → k < lines → line-due (now (moment .entry) .window) (nth (now (jobs .entry)) k) ≡ false)
+        (λ l. (from ≤ l) × (l < lines)
+        × (line-due (now (moment .entry) .window) (nth (now (jobs .entry)) l) ≡ true)
+        × ((k : ℕ) → from ≤ k → k < l →
+        line-due (now (moment .entry) .window) (nth (now (jobs .entry)) k) ≡ false)) ⌝ }
 {
     for k in from..LINES {
         if moment.is_line_due(jobs, k) {
@@ -53,9 +51,7 @@ fn moment_in<Z: Zone>(z: &Z, u: Minute) -> Moment
 // The first due position from `from` on and before minute `before`.
 fn search<Z: Zone>(z: &Z, jobs: &[Job], from: Position, before: Minute) -> Option<Position>
     requires { ⌜ bounds (from .minute .0) ≡ true ⌝ ∗ ⌜ bounds (before .0) ≡ true ⌝ }
-    ensures {
-        λ r. ⌜ Next-due (due-line (offsets (now (z .entry))) (now (jobs .entry))) (rank from) (before .0) r ⌝
-    }
+    ensures { λ r. ⌜ Next-due (due-line (offsets (now (z .entry))) (now (jobs .entry))) (rank from) (before .0) r ⌝ }
 {
     let mut u = from.minute().count();
     let mut line = from.line();
@@ -78,7 +74,12 @@ fn is_bound(u: Minute) -> bool
 }
 
 // The first due position from `from` on and before minute `before`, if there is one.
-pub fn next_due<Z: Zone>(z: &Z, jobs: &[Job], from: Position, before: Minute) -> Result<Option<Position>, Refusal>
+pub fn next_due<Z: Zone>(
+    z: &Z,
+    jobs: &[Job],
+    from: Position,
+    before: Minute,
+) -> Result<Option<Position>, Refusal>
     ensures { λ r. ⌜ Search-answer (offsets (now (z .entry))) (now (jobs .entry)) from before r ⌝ }
 {
     if !is_bound(from.minute()) {

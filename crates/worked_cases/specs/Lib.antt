@@ -1,2 +1,3 @@
 pub mod Reader
+pub mod Due
 pub mod Worked

@@ -1,5 +1,10 @@
 -- All cases worked out by hand, in one statement.
 use Rattle.worked_cases.specs.Reader.{Ranges, Steps, Names, Lines}
+use Rattle.worked_cases.specs.Due.{Due-cases}
 
-abbrev pub Worked : Type 0
-Worked = Ranges × Steps × Names × Lines
+pub record Worked : Type 0 where
+  pub ranges : Ranges
+  pub steps : Steps
+  pub names : Names
+  pub lines : Lines
+  pub due : Due-cases

@@ -17,9 +17,12 @@ use Rattle.schedule.proofs.search.search.Needs as need
 pub minutes-holds : need.minutes-holds
 minutes-holds g c =
     let e = ap (λ (m : Minute). m .0) (c .minute .ensures) in
-    let low = bounds-low (c .args .from .minute .0) (c .pre .0) in
-    (omega (arith, c .count-u .ensures), omega arith, λ v k f lo hi. absurd (omega arith),
-    omega (arith, c .line-line .ensures, c .args .from .few))
+    let low = bounds-low (c .args .from .minute .0) (c .pre .0) in (
+      omega (arith, c .count-u .ensures),
+      omega arith,
+      λ v k f lo hi. absurd (omega arith),
+      omega (arith, c .line-line .ensures, c .args .from .few),
+    )
 
 pub moment-in-moment-requires : need.moment-in-moment-requires
 moment-in-moment-requires g c κs =
@@ -52,15 +55,17 @@ minutes-again g c =
     let w : window off u ≡ c .moment-in-moment .result .window = sym (c .moment-in-moment .ensures ∙ ap (window off) (c .new .ensures)) in
     let h = c .in-rest .ensures tt in
     let up : u * lines + lines ≡ rank-of (u + 1) 0 = omega arith in
-    let a = rank-of (c .count-u .result) (c .line-line .result) in
-    (omega (arith, c .minutes .inv .0), omega (arith, c .minutes .inv .1, c .minutes .inv .3),
-    subst (None-due (due-line off js) a) up
-        (none-more (due-line off js) a u (c .minutes .line) lines (omega arith) (c .minutes .inv .2)
-        (λ k lo hi. ap (λ (x : Window). line-due x (nth js k)) w ∙ h k lo hi)),
-    omega arith)
+    let a = rank-of (c .count-u .result) (c .line-line .result) in (
+      omega (arith, c .minutes .inv .0),
+      omega (arith, c .minutes .inv .1, c .minutes .inv .3),
+      subst (None-due (due-line off js) a) up
+          (none-more (due-line off js) a u (c .minutes .line) lines (omega arith) (c .minutes .inv .2)
+          (λ k lo hi. ap (λ (x : Window). line-due x (nth js k)) w ∙ h k lo hi)),
+      omega arith,
+    )
 
 pub returns : need.returns
 returns g c =
     let e = ap (λ (m : Minute). m .0) (c .minute .ensures) in
     λ v k f lo hi.
-        c .minutes .inv .2 v k f (omega (arith, c .count-u .ensures, c .line-line .ensures)) (omega (arith, c .minutes-test .left, c .count .ensures))
+    c .minutes .inv .2 v k f (omega (arith, c .count-u .ensures, c .line-line .ensures)) (omega (arith, c .minutes-test .left, c .count .ensures))
