@@ -3,6 +3,7 @@ ghost use mathlib.Core.Bool.{true, false};
 ghost use mathlib.Core.Path.{_≡_};
 ghost use Prim.Native.Nat.{_-_};
 ghost use Rattle.std.specs.Finite.{nth};
+ghost use Rattle.std.specs.Options.{mapped};
 ghost use Rattle.std.specs.Results.{Cases};
 ghost use Rattle.zone.specs.Answers.{window as window-at};
 ghost use Rattle.zone.specs.Offsets.{served};
@@ -33,6 +34,14 @@ fn any_matches(job: &Job, above: Label, to: Label) -> bool
         m = m.previous();
     }
     false
+}
+
+// Job line `k`, if there is one.
+fn line(jobs: &[Job], k: u8) -> Option<&Job>
+    ensures { λ r. ⌜ mapped now r ≡ nth (now (jobs .entry)) k ⌝ }
+{
+    let i = k as usize;
+    if i < jobs.len() { Some(&jobs[i]) } else { None }
 }
 
 impl Moment {
@@ -76,11 +85,10 @@ impl Moment {
     pub fn is_line_due(&self, jobs: &[Job], k: u8) -> bool
         ensures { λ r. ⌜ r ≡ line-due (now (self .entry) .window) (nth (now (jobs .entry)) k) ⌝ }
     {
-        let i = k as usize;
-        if i >= jobs.len() {
-            return false;
+        match line(jobs, k) {
+            Some(job) => self.is_due(job),
+            None => false,
         }
-        self.is_due(&jobs[i])
     }
 }
 
