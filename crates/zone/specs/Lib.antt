@@ -1,0 +1,5 @@
+pub mod Limits
+pub mod Refusal
+pub mod Offsets
+pub mod Answers
+pub mod Table
