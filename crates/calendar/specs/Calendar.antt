@@ -1,6 +1,7 @@
 -- The Gregorian calendar: the date of a day number by counting years and months up from 1970-01-01, day 0.
 use Prim.Native.Nat.{ℕ, zero, suc, _+_, _-_, _%_}
 use mathlib.Core.Bool.{Bool, true, false, cond, not, _&&_, _||_}
+use mathlib.Core.Path.{_≡_}
 use lib.Dec.{eqb, ltb}
 use Rattle.calendar.specs.declared.Date.{Date}
 
@@ -37,3 +38,13 @@ date n = from-year n 1970 n
 -- day 0 was a Thursday, 4, where Sunday is 0
 abbrev pub weekday : ℕ → ℕ
 weekday n = (n + 4) % 7
+
+-- the day after a date
+abbrev pub following : Date → Date
+following d =
+    cond (ltb (d .day) (month-days (d .year) (d .month))) (on (d .year) (d .month) (d .day + 1))
+    (cond (ltb (d .month) 12) (on (d .year) (d .month + 1) 1) (on (d .year + 1) 1 1))
+
+-- in the calendar's own words: day 0 is 1970-01-01, and each day's date follows that of the day before
+abbrev pub Days-follow : Type 0
+Days-follow = (date 0 ≡ on 1970 1 1) × ((n : ℕ) → date (n + 1) ≡ following (date n))

@@ -1,7 +1,7 @@
 // The Gregorian calendar, by days since 1970-01-01.
 ghost use mathlib.Core.Path.{_≡_};
 ghost use Prim.Native.Nat.{_<_};
-ghost use Rattle.calendar.specs.Calendar.{date, from-month, leap, month-days, weekday, year-days};
+ghost use Rattle.calendar.specs.Calendar.{date, Days-follow, from-month, leap, month-days, weekday, year-days};
 
 #[derive(Clone, Copy)]
 pub struct Date {
@@ -86,4 +86,11 @@ pub fn weekday_of(n: u32) -> u32
 {
     // 1970-01-01 was a Thursday
     (n % 7 + 4) % 7
+}
+
+// Counting gives the dates one after the other, as a calendar has them.
+pub fn days_follow_each_other() -> u8
+    ensures { λ _. ⌜ Days-follow ⌝ }
+{
+    0
 }
