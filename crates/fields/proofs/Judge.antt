@@ -22,23 +22,34 @@ use Rattle.fields.specs.Values.{judged}
 -- what is taken has a step
 pub judged-steps : (f : Field) (o : Option Span) → made (judged f o) (λ s. 0 < s .step)
 judged-steps f None = tt
-judged-steps f (Some s) = go (outside f (s .from) || outside f (s .to)) (ltb (s .to) (s .from) || eqb (s .step) 0) refl
+judged-steps f (Some s) =
+    go (outside f (s .from) || outside f (s .to)) (ltb (s .to) (s .from) || eqb (s .step) 0) refl
   where
-    go : (b d : Bool) → (ltb (s .to) (s .from) || eqb (s .step) 0) ≡ d → made {X = Span} {Y = Fault} (cond b (Err OutOfRange) (cond d (Err Turned) (Ok s))) (λ x. 0 < x .step)
+    go : (b d : Bool) → (ltb (s .to) (s .from) || eqb (s .step) 0) ≡ d →
+        made {X = Span} {Y = Fault} (cond b (Err OutOfRange) (cond d (Err Turned) (Ok s))) (λ x. 0 < x .step)
     go true d e = tt
     go false true e = tt
     go false false e = grind (arith, tells)
+
+-- the form of a piece, by its tests: has it a step, is what stands before it a star or a range, is the whole one
+abbrev formed : (step star-step range-step is-star is-range : Bool) → Piece → Form
+formed a b c d e p =
+    cond a
+    (cond b (each (back-piece 47 p))
+    (cond c
+    (range-each (front-piece 45 (front-piece 47 p)) (back-piece 45 (front-piece 47 p)) (back-piece 47 p))
+    unknown))
+    (cond d star (cond e (range (front-piece 45 p) (back-piece 45 p)) (single p)))
 
 abbrev whole : List ℕ → Piece
 whole t = record { at = 0; text = t }
 
 -- what an element says does not hang on its place
 pub placed : (f : Field) (p : Piece) → spanned f (form p) ≡ element f (p .text)
-placed f p = go (has 47 (p .text)) (star? (front 47 (p .text))) (has 45 (front 47 (p .text))) (star? (p .text)) (has 45 (p .text))
+placed f p =
+    go (has 47 (p .text)) (star? (front 47 (p .text))) (has 45 (front 47 (p .text))) (star? (p .text)) (has 45 (p .text))
   where
-    go : (a b c d e : Bool) →
-        spanned f (cond a (cond b (each (back-piece 47 p)) (cond c (range-each (front-piece 45 (front-piece 47 p)) (back-piece 45 (front-piece 47 p)) (back-piece 47 p)) unknown)) (cond d star (cond e (range (front-piece 45 p) (back-piece 45 p)) (single p))))
-        ≡ spanned f (cond a (cond b (each (back-piece 47 (whole (p .text)))) (cond c (range-each (front-piece 45 (front-piece 47 (whole (p .text)))) (back-piece 45 (front-piece 47 (whole (p .text)))) (back-piece 47 (whole (p .text)))) unknown)) (cond d star (cond e (range (front-piece 45 (whole (p .text))) (back-piece 45 (whole (p .text)))) (single (whole (p .text))))))
+    go : (a b c d e : Bool) → spanned f (formed a b c d e p) ≡ spanned f (formed a b c d e (whole (p .text)))
     go true true c d e = refl
     go true false true d e = refl
     go true false false d e = refl

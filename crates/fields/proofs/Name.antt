@@ -24,5 +24,7 @@ module _ (k : ℕ) (ns : List (List ℕ)) (i : ℕ) (h : i < length ns) (a b c :
 pub named-end : (k : ℕ) (ns : List (List ℕ)) (i : ℕ) → length ns ≤ i → (a b c : ℕ) → named (k + i) (drop i ns) a b c ≡ None
 named-end k ns i h a b c = rw (drop-of-length-le ns h) refl
 
-pub named-at : (k : ℕ) (ns : List (List ℕ)) (e : List ℕ) (a b c : ℕ) (r : Option ℕ) → r ≡ named k ns a b c → a ≡ lower (getD e 0 0) → b ≡ lower (getD e 1 0) → c ≡ lower (getD e 2 0) → length e ≡ 3 → r ≡ name-in k ns e
+pub named-at : (k : ℕ) (ns : List (List ℕ)) (e : List ℕ) (a b c : ℕ) (r : Option ℕ) →
+    r ≡ named k ns a b c → a ≡ lower (getD e 0 0) → b ≡ lower (getD e 1 0) → c ≡ lower (getD e 2 0) →
+    length e ≡ 3 → r ≡ name-in k ns e
 named-at k ns e a b c r h x y z l = rw (eq-eqb (length e) 3 l) (h ∙ (λ i. named k ns (x i) (y i) (z i)))

@@ -5,13 +5,17 @@ use Rattle.fields.proofs.names.find_name.Needs as need
 
 pub loop-i-again : need.loop-i-again
 loop-i-again c =
-    sym (named-go (c .args .first) (c .args .names .now) (c .loop-i .i) (omega arith) (c .args .a) (c .args .b) (c .args .c) (sym (c .is-spelt .ensures) ∙ c .if-is-spelt .left))
-    ∙ c .loop-i .inv
+    let a = c .args in
+    let miss = sym (c .is-spelt .ensures) ∙ c .if-is-spelt .left in
+    sym (named-go (a .first) (a .names .now) (c .loop-i .i) (omega arith) (a .a) (a .b) (a .c) miss) ∙ c .loop-i .inv
 
 pub returns-then-is-spelt : need.returns-then-is-spelt
 returns-then-is-spelt c =
-    sym (named-stop (c .args .first) (c .args .names .now) (c .loop-i .i) (omega arith) (c .args .a) (c .args .b) (c .args .c) (sym (c .is-spelt .ensures) ∙ c .if-is-spelt .taken))
-    ∙ c .loop-i .inv
+    let a = c .args in
+    let hit = sym (c .is-spelt .ensures) ∙ c .if-is-spelt .taken in
+    sym (named-stop (a .first) (a .names .now) (c .loop-i .i) (omega arith) (a .a) (a .b) (a .c) hit) ∙ c .loop-i .inv
 
 pub returns : need.returns
-returns c = sym (named-end (c .args .first) (c .args .names .now) (c .loop-i .i) (omega arith) (c .args .a) (c .args .b) (c .args .c)) ∙ c .loop-i .inv
+returns c =
+    let a = c .args in
+    sym (named-end (a .first) (a .names .now) (c .loop-i .i) (omega arith) (a .a) (a .b) (a .c)) ∙ c .loop-i .inv

@@ -10,5 +10,11 @@ use Rattle.fields.proofs.values.Values.add.Needs as need
 pub loop-v-again : need.loop-v-again
 loop-v-again c =
     let i = c .loop-v .inv in
-    let e = i .2 (c .loop-v .v) (omega arith) in
-    (length-set _ _ _ ∙ i .0, add-more (c .args .self .now .has) (c .loop-v .self .has) (c .loop-v .v) 64 (takes (c .args .s)) _ (i .0) (omega arith) (ap₂ _||_ (c .takes .ensures) e) (i .1), add-rest (c .args .self .now .has) (c .loop-v .self .has) (c .loop-v .v) 64 (takes (c .args .s)) _ (i .0) (omega arith) (i .2))
+    let v = c .loop-v .v in
+    let old = c .args .self .now .has in
+    let has = c .loop-v .self .has in
+    let here = ap₂ _||_ (c .takes .ensures) (i .2 v (omega arith)) in (
+      length-set _ _ _ ∙ i .0,
+      add-more old has v 64 (takes (c .args .s)) _ (i .0) (omega arith) here (i .1),
+      add-rest old has v 64 (takes (c .args .s)) _ (i .0) (omega arith) (i .2),
+    )
