@@ -53,16 +53,21 @@ lines-step (x ∷ []) h = go (eqb x 10)
     go false = refl
 lines-step (x ∷ y ∷ ys) h = go (eqb x 10) (lines-step (y ∷ ys) (omega arith))
   where
-    rest : List ℕ
-    rest = y ∷ ys
+    n : ℕ
+    n = line-length (y ∷ ys)
 
-    go : (t : Bool) → lines (y ∷ ys) ≡ take (line-length (y ∷ ys)) (y ∷ ys) ∷ lines (drop (suc (line-length (y ∷ ys))) (y ∷ ys)) →
+    go : (t : Bool) → lines (y ∷ ys) ≡ take n (y ∷ ys) ∷ lines (drop (suc n) (y ∷ ys)) →
         cond t ([] ∷ lines (y ∷ ys)) (longer x (lines (y ∷ ys)))
-        ≡ take (cond t 0 (suc (line-length (y ∷ ys)))) (x ∷ y ∷ ys) ∷ lines (drop (suc (cond t 0 (suc (line-length (y ∷ ys))))) (x ∷ y ∷ ys))
+        ≡ take (cond t 0 (suc n)) (x ∷ y ∷ ys) ∷ lines (drop (suc (cond t 0 (suc n))) (x ∷ y ∷ ys))
     go true ih = refl
     go false ih = ap (longer x) ih
 
-module _ (file : List ℕ) (start fin : ℕ) (inside : start < length file) (ends : fin ≡ start + line-length (drop start file)) where
+-- what follows a line of length m that was read with k jobs before it
+abbrev goes-on : ℕ → ℕ → ℕ → ℕ → List (List ℕ) → Result (Option Job) Refusal → Result (List Job) Refusal
+goes-on n start k m ls r = and-then r (λ o. before o (lines-reading (n + 1) (start + (m + 1)) (counted o k) ls))
+
+module _ (file : List ℕ) (start fin : ℕ)
+    (inside : start < length file) (ends : fin ≡ start + line-length (drop start file)) where
   -- the line that begins at a place
   abbrev pub here : List ℕ
   here = take (fin - start) (drop start file)
@@ -90,7 +95,7 @@ module _ (file : List ℕ) (start fin : ℕ) (inside : start < length file) (end
       let rest = lines (drop (fin + 1) file) in
       let at : start + (length here + 1) ≡ fin + 1 = omega (arith, length-here) in
       ap (λ (ls : List (List ℕ)). prepended js (lines-reading n start k ls)) line-here
-      ∙ ap (λ (r : Result (Option Job) Refusal). prepended js (and-then r (λ p. before p (lines-reading (n + 1) (start + (length here + 1)) (counted p k) rest)))) e
+      ∙ ap (λ (r : Result (Option Job) Refusal). prepended js (goes-on n start k (length here) rest r)) e
       ∙ prepended-more js o (lines-reading (n + 1) (start + (length here + 1)) (counted o k) rest)
       ∙ (λ i. prepended (sym items i) (lines-reading (n + 1) (at i) (sym len i) rest))
 
@@ -100,4 +105,4 @@ module _ (file : List ℕ) (start fin : ℕ) (inside : start < length file) (end
   line-refused n k x e =
       let rest = lines (drop (fin + 1) file) in
       ap (lines-reading n start k) line-here
-      ∙ ap (λ (r : Result (Option Job) Refusal). and-then r (λ p. before p (lines-reading (n + 1) (start + (length here + 1)) (counted p k) rest))) e
+      ∙ ap (goes-on n start k (length here) rest) e

@@ -17,36 +17,40 @@ use Rattle.crontab.proofs.file.read_lines.Needs as need
 
 pub returns-in-Break-add-line : need.returns-in-Break-add-line
 returns-in-Break-add-line c =
+    let l = c .loop-start in
     let p = err-from-errBy (c .from-residual .result) (c .from-residual .ensures .1) in
-    let inside : c .loop-start .start < length (c .args .file .now) = omega arith in
-    let file = c .args .file .now in
+    let inside : l .start < length (c .args .file .now) = omega arith in
+    let refused = line-refused (c .args .file .now) (l .start) (c .scan-end .result) inside (c .scan-end .ensures .value) in
     rw (p .1, p .2)
     (⊎-elim inl
-    (λ e. inr (sym (c .loop-start .inv .2)
-    ∙ ap (prepended (vec-items (c .loop-start .jobs)))
-    (line-refused file (c .loop-start .start) (c .scan-end .result) inside (c .scan-end .ensures .value) (c .loop-start .n) _ _ e)))
+    (λ e. inr (sym (l .inv .2) ∙ ap (prepended (vec-items (l .jobs))) (refused (l .n) _ _ e)))
     (c .in-Break-add-line .ensures tt))
 
 pub loop-start-holds : need.loop-start-holds
 loop-start-holds c =
     let items = c .new-jobs .ensures .items in
     let len = c .new-jobs .ensures .len in
-    let all = lines (c .args .file .now) in
-    (omega arith, omega arith, (λ i. prepended (items i) (lines-reading 1 0 (len i) all)) ∙ prepended-none (lines-reading 1 0 0 all))
+    let all = lines (c .args .file .now) in (
+      omega arith,
+      omega arith,
+      (λ i. prepended (items i) (lines-reading 1 0 (len i) all)) ∙ prepended-none (lines-reading 1 0 0 all),
+    )
 
 pub loop-start-again : need.loop-start-again
 loop-start-again c =
+    let l = c .loop-start in
     let a = c .in-Continue-add-line .ensures tt in
-    let inside : c .loop-start .start < length (c .args .file .now) = omega arith in (
+    let inside : l .start < length (c .args .file .now) = omega arith in
+    let taken = line-taken (c .args .file .now) (l .start) (c .scan-end .result) inside (c .scan-end .ensures .value) in (
       omega (arith, c .scan-end .ensures .bound),
-      omega (arith, c .loop-start .inv .1, c .scan-end .ensures .low),
-      sym (line-taken (c .args .file .now) (c .loop-start .start) (c .scan-end .result) inside (c .scan-end .ensures .value) (c .loop-start .n) _ _ (a .job) _ _ (a .reads) (a .items) (a .len))
-          ∙ c .loop-start .inv .2,
+      omega (arith, l .inv .1, c .scan-end .ensures .low),
+      sym (taken (l .n) _ _ (a .job) _ _ (a .reads) (a .items) (a .len)) ∙ l .inv .2,
     )
 
 pub returns : need.returns
 returns c =
     let l = c .loop-start in
+    let from = λ (s : List ℕ). prepended (vec-items (l .jobs)) (lines-reading (l .n) (l .start) (vec-len (l .jobs)) (lines s)) in
     sym (l .inv .2)
-    ∙ ap (λ (s : List ℕ). prepended (vec-items (l .jobs)) (lines-reading (l .n) (l .start) (vec-len (l .jobs)) (lines s))) (drop-all (l .start) (c .args .file .now) (omega arith))
+    ∙ ap from (drop-all (l .start) (c .args .file .now) (omega arith))
     ∙ ap Ok (append-nil (vec-items (l .jobs)))

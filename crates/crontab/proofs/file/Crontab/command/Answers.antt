@@ -11,10 +11,12 @@ pub returns-then-k-len : need.returns-then-k-len
 returns-then-k-len c =
     let v = c .args .self .now .jobs in
     let long = v .ok .0 in
-    sym (ap (λ (o : Option Job). command-of (c .args .self .now .file .now) o) (nth-past (vec-items v) (c .args .k) (omega arith)))
+    let of = λ (o : Option Job). command-of (c .args .self .now .file .now) o in
+    sym (ap of (nth-past (vec-items v) (c .args .k) (omega arith)))
 
 pub returns : need.returns
 returns c =
     let v = c .args .self .now .jobs in
-    c .part .ensures
-    ∙ sym (ap (λ (o : Option Job). command-of (c .args .self .now .file .now) o) (nth-read (vec-items v) (vec-len v) (c .args .k) (c .index .result .now) (v .ok .0) (omega arith) (c .index .ensures)))
+    let of = λ (o : Option Job). command-of (c .args .self .now .file .now) o in
+    let read = nth-read (vec-items v) (vec-len v) (c .args .k) (c .index .result .now) (v .ok .0) in
+    c .part .ensures ∙ sym (ap of (read (omega arith) (c .index .ensures)))
