@@ -1,5 +1,6 @@
 -- All cases worked out by hand, in one statement.
 use Rattle.worked_cases.specs.Reader.{Ranges, Steps, Names, Lines}
+use Rattle.page.specs.Laws.{First-start}
 use Rattle.worked_cases.specs.Due.{Due-cases}
 
 pub record Worked : Type 0 where
@@ -8,3 +9,4 @@ pub record Worked : Type 0 where
   pub names : Names
   pub lines : Lines
   pub due : Due-cases
+  pub page : First-start

@@ -1,6 +1,7 @@
 use mathlib.Core.Path.{refl}
 use lib.Dec.{lit<, lit≤}
 use Rattle.schedule.proofs.Reached.{highest-above}
+use Rattle.page.proofs.First.{first-start-bytes}
 use Rattle.worked_cases.specs.Due.{offsets}
 use Rattle.worked_cases.proofs.Fridays.{any-friday}
 use Rattle.zone.specs.Offsets.{reached}
@@ -28,4 +29,5 @@ returns c = record {
     );
     any-friday = any-friday;
   };
+  page = first-start-bytes;
 }

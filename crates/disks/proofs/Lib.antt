@@ -1,0 +1,3 @@
+pub mod Lookup
+pub mod Lands
+pub mod Holds

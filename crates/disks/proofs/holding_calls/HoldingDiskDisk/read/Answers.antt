@@ -1,0 +1,21 @@
+use native.Mathlib.Omega.{arith}
+use borrow.Author.Tests.{false-ltb, true-ltb}
+use Prim.Native.Nat.{_<_, _≤_}
+use Rattle.std.specs.Of.Vec.{vec-items}
+use Rattle.disks.specs.Blocks.{content-of, shown-of}
+use Rattle.disks.proofs.Holds.{reads-shown}
+use Rattle.disks.proofs.Lands.{reads-past}
+use Rattle.disks.proofs.holding_calls.HoldingDiskDisk.read.Needs as need
+
+pub returns-then-has : need.returns-then-has
+returns-then-has c =
+    let h : c .args .block < c .args .self .now .blocks .len =
+    true-ltb (c .args .block) (c .args .self .now .blocks .len) (c .if-has .ensures tt) in
+    reads-shown (vec-items (c .args .self .now .blocks)) (c .args .block) (c .index .result .now) (c .shown .result) (omega arith)
+    (c .index .ensures) (c .shown .ensures)
+
+pub returns-else-has : need.returns-else-has
+returns-else-has c =
+    let h : c .args .self .now .blocks .len ≤ c .args .block =
+    false-ltb (c .args .block) (c .args .self .now .blocks .len) (c .if-has .ensures tt) in
+    reads-past (λ b. content-of (shown-of b)) (vec-items (c .args .self .now .blocks)) (c .args .block) (omega arith)

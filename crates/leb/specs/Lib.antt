@@ -1,0 +1,4 @@
+pub mod Limits
+pub mod Number
+pub mod Block
+pub mod Written
