@@ -45,7 +45,7 @@ abbrev pub matched : Option Job → ℕ → Bool
 matched None m = false
 matched (Some j) m = matches j m
 
--- at how many of n minutes, the last of which is u, it is due
+-- at how many of the n minutes from u on it is due
 abbrev pub times-due : List Job → ℕ → ℕ → ℕ
 times-due js zero u = 0
 times-due js (suc n) u = elim (due-line offsets js (u + n) 0) [ true ↦ suc (times-due js n u) | false ↦ times-due js n u ]
