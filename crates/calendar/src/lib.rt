@@ -1,4 +1,6 @@
 // The Gregorian calendar, by days since 1970-01-01.
+#![tactic(auto)]
+
 ghost use Rattle.std.specs.Prelude.{◌≡◌, ◌<◌};
 ghost use Rattle.calendar.specs.Calendar.{date, DaysFollow, from_month, leap, month_days, weekday, year_days};
 

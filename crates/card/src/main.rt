@@ -1,5 +1,7 @@
 // Shows what a restart finds of the journal on a card. The card's image is read from the file that the first argument
 // names or else from standard input.
+#![tactic(auto)]
+
 mod image;
 mod refusal;
 mod rows;

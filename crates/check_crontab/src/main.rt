@@ -1,5 +1,7 @@
 // Reads a crontab, from the file that the first argument names or else from standard input, and says what it holds
 // or why it is refused.
+#![tactic(auto)]
+
 mod complaint;
 mod listing;
 mod runs;

@@ -1,4 +1,6 @@
 // A crontab read from its bytes: its job lines, or the first place that cannot be taken.
+#![tactic(auto)]
+
 mod commands;
 mod file;
 mod job;

@@ -1,4 +1,6 @@
 // The grammar of a crontab, said by concatenation, and that `crontab` reads exactly by it.
+#![tactic(auto)]
+
 ghost use Rattle.crontab_grammar.specs.Laws.{ReadsIdle, ReadsJobs, ReadsLines, RefusesFirst, TakesBytes, TakesCommands, TakesFaultless, TakesInRange, TakesJobs};
 
 // Lines and jobs are read exactly as the grammar has them.

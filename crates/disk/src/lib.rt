@@ -1,4 +1,6 @@
 // Disks of blocks, by what each block holds and may hold when the power fails.
+#![tactic(auto)]
+
 mod cut_disk;
 mod disk;
 mod limits;

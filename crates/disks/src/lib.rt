@@ -1,4 +1,6 @@
 // Disks in memory: one keeps writes back until a sync, on the other each write lands at once.
+#![tactic(auto)]
+
 mod block;
 mod direct;
 mod direct_calls;

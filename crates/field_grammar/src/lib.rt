@@ -1,4 +1,6 @@
 // The grammar of a field, said by concatenation, and that `fields` reads exactly by it.
+#![tactic(auto)]
+
 ghost use Rattle.field_grammar.specs.Laws.{OneReading, ReadsElements, ReadsParts};
 ghost use Rattle.field_grammar.specs.Laws.{TakesSound, RefusesWrong, RefusesLeftmost, TakesFaultless};
 ghost use Rattle.field_grammar.specs.Laws.{HoldsSaid, HoldsInRange, HoldsSome};

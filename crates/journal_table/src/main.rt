@@ -1,5 +1,7 @@
 // Runs the page codec on the cases of an independent model, and compares the answers with those of the model.
 // A case is a line `HEX -> ANSWER`: a block's bytes in hexadecimal, and the page that they are, or `none`.
+#![tactic(auto)]
+
 mod block;
 mod pages;
 

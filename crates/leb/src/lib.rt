@@ -1,4 +1,6 @@
 // Unsigned LEB128 numbers in shortest form: groups of seven bits, the lowest first, 128 added to each but the last.
+#![tactic(auto)]
+
 mod block;
 mod laws;
 mod limits;

@@ -1,4 +1,6 @@
 // The engine's table of open tickets, each with how far it has come.
+#![tactic(auto)]
+
 mod calls;
 mod stage;
 mod table;

@@ -1,5 +1,7 @@
 // Runs the reader of crontabs on the cases of standard input, and compares its answers with those that stand there.
 // A case is a line `HEX -> ANSWER`: a file's bytes in hexadecimal, `-` for none, and what the reader should answer.
+#![tactic(auto)]
+
 mod answer;
 mod hex;
 

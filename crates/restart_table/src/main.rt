@@ -1,5 +1,7 @@
 // Runs restarts on the cases of an independent model, and compares the answers with those of the model.
 // A case is a line `COUNT LINES BLOCKS -> ANSWER`.
+#![tactic(auto)]
+
 mod block;
 mod positions;
 mod restarts;

@@ -1,4 +1,6 @@
 // Bytes of a text: which kinds there are, and where the next one of a kind stands.
+#![tactic(auto)]
+
 ghost use Rattle.std.specs.Prelude.{◌≡◌, ◌+◌, ◌≤◌, length, drop};
 ghost use Rattle.scan.specs.Scan.{before_first, is};
 

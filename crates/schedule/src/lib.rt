@@ -1,4 +1,6 @@
 // When a job line is due.
+#![tactic(auto)]
+
 mod due;
 mod matching;
 mod moment;

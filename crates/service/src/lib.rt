@@ -1,5 +1,7 @@
 // What an engine is for, stated over whole histories of a service and proved: the order of launches, restarts after cuts, and
 // that rounds catch up. Each function stands for one promise; its contract is the promise.
+#![tactic(auto)]
+
 ghost use Rattle.service.specs.Answers.{RightAnswers};
 ghost use Rattle.service.specs.Causes.{Determined};
 ghost use Rattle.service.specs.Script.{ScriptRuns};

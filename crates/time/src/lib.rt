@@ -1,4 +1,6 @@
 // Minutes, and positions: a minute and a line number.
+#![tactic(auto)]
+
 mod limits;
 mod minute;
 mod position;

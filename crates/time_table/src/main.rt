@@ -1,5 +1,7 @@
 // Runs zones, joins, the calendar and due lines on the cases of an independent model, and compares the answers with
 // those of the model. A case is a line `QUESTION -> ANSWER` of one of four files.
+#![tactic(auto)]
+
 mod days;
 mod dues;
 mod text;

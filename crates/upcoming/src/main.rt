@@ -1,5 +1,7 @@
 // Lists when the job lines of a crontab are due. The zone, the span and the crontab are read as one script, from the
 // file that the first argument names or else from standard input.
+#![tactic(auto)]
+
 mod refusal;
 mod rows;
 mod script;

@@ -1,4 +1,6 @@
 // Time zones: how far the local clock is ahead, and which of its labels a minute is the first to reach.
+#![tactic(auto)]
+
 mod entry;
 mod label;
 mod limits;

@@ -1,4 +1,6 @@
 // Two zones joined at a minute: the first before it, the second from it on.
+#![tactic(auto)]
+
 mod ask;
 mod join;
 mod limits;
