@@ -2,7 +2,7 @@ use Rattle.std.proofs.Common.{◌≡◌, ℕ, ◌+◌, ◌-◌, ◌<◌, ◌≤�
 use Rattle.calendar.specs.Calendar.{from_month, month_days}
 use Rattle.calendar.proofs.Count.{month_go, month_stop, month_end}
 use Rattle.calendar.proofs.month_of.Goals as goal
-use Rattle.calendar.proofs.month_of.Goals.{then-months-test+else-days-days-in-month, else-months-test}
+use Rattle.calendar.proofs.month_of.Goals.{then-months-test+else-days-days_in_month, else-months-test}
 
 pub months-preserved : goal.months-preserved
 months-preserved c =
@@ -10,8 +10,8 @@ months-preserved c =
     let m = c.months.month in
     let d = c.months.days in
     let i = c.months.invariant in
-    let q : c.days-in-month-days.result ≡ month_days y m = c.days-in-month-days.ensures in
-    let w : month_days y m ≤ d = omega (arith, c.days-in-month.ensures) in (
+    let q : c.days_in_month-days.result ≡ month_days y m = c.days_in_month-days.ensures in
+    let w : month_days y m ≤ d = omega (arith, c.days_in_month.ensures) in (
       omega arith,
       omega arith,
       omega arith,
@@ -26,7 +26,7 @@ returns c =
     let d = c.months.days in
     let i = c.months.invariant in
     elim c.months-test.branch [
-      | then-months-test+else-days-days-in-month w ↦
-          (let h : d < month_days y m = omega (arith, w.days-in-month.ensures) in sym (month_stop (12 - m) y m d h) ∙ i.3)
+      | then-months-test+else-days-days_in_month w ↦
+          (let h : d < month_days y m = omega (arith, w.days_in_month.ensures) in sym (month_stop (12 - m) y m d h) ∙ i.3)
       | else-months-test w ↦ sym (month_end (12 - m) y m d (omega arith)) ∙ i.3
     ]

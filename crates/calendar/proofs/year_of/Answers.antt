@@ -9,8 +9,8 @@ years-preserved c =
     let d = c.years.days in
     let n = c.args.n in
     let i = c.years.invariant in
-    let q : c.days-in-year-days.result ≡ year_days y = c.days-in-year-days.ensures in
-    let w : year_days y ≤ d = omega (arith, c.days-in-year.ensures) in
+    let q : c.days_in_year-days.result ≡ year_days y = c.days_in_year-days.ensures in
+    let w : year_days y ≤ d = omega (arith, c.days_in_year.ensures) in
     let l = year_long y in (
       omega arith,
       omega arith,
@@ -21,7 +21,7 @@ years-preserved c =
 pub returns : goal.returns
 returns c =
     let i = c.years.invariant in
-    let w : c.years.days < year_days c.years.year = omega (arith, c.days-in-year.ensures) in
+    let w : c.years.days < year_days c.years.year = omega (arith, c.days_in_year.ensures) in
     record {
       same = sym (year_stop (c.args.n + 1970 - c.years.year) c.years.year c.years.days w) ∙ i.2;
       bound = omega (arith, year_short c.years.year);

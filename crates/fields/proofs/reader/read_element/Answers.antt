@@ -12,6 +12,6 @@ returns c =
     let f = c.args.f in
     record {
       answer = c.judge.ensures
-          ∙ ap (judged f) (c.read-span.ensures ∙ ap (spanned f) c.shape.ensures ∙ placed f (piece c.args.e));
-      steps = subst (λ (r : Result Span Fault). IfOk r (λ s. 0 < s.step)) (sym c.judge.ensures) (judged_steps f c.read-span.result);
+          ∙ ap (judged f) (c.read_span.ensures ∙ ap (spanned f) c.shape.ensures ∙ placed f (piece c.args.e));
+      steps = subst (λ (r : Result Span Fault). IfOk r (λ s. 0 < s.step)) (sym c.judge.ensures) (judged_steps f c.read_span.result);
     }

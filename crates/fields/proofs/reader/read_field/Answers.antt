@@ -24,8 +24,8 @@ unfolding field_reading
 returns-in-Err c =
     let f = c.args.f in
     let s = c.args.s.now in
-    let p = c.first-element.ensures.part in
-    let at : c.first-element.result.0.at ≡ c.elements.rest.at = ap (λ (q : Piece). q.at) p in
+    let p = c.first_element.ensures.part in
+    let at : c.first_element.result.0.at ≡ c.elements.rest.at = ap (λ (q : Piece). q.at) p in
     let bad =
     sym c.elements.invariant.1
     ∙ bad_step f c.elements.rest.text.now _ _ (ap (λ (q : Piece). q.text) p) c.in-Err.ensures.answer c.elements.rest.at in
@@ -39,12 +39,12 @@ pub elements-preserved : goal.elements-preserved
 elements-preserved c =
     let f = c.args.f in
     let s = c.elements.rest.text.now in
-    let e = c.first-element.result.0.text.now in
+    let e = c.first_element.result.0.text.now in
     let m = c.in-Some.m in
-    let p = c.first-element.ensures.part in
+    let p = c.first_element.ensures.part in
     let r = MatchOption-at_some (has 44 s ≡ false)
     (λ (x : Part). (has 44 s ≡ true) × (piece x ≡ back_piece 44 (piece c.elements.rest)) × (length e + 1 + length x.text.now ≡ length s))
-    m c.in-Some.is c.first-element.ensures.rest in
+    m c.in-Some.is c.first_element.ensures.rest in
     let text = ap (λ (q : Piece). q.text) p in
     let l = left_some s m.text.now r.0 (ap (λ (q : Piece). q.text) r.1) in
     let at : m.at ≡ c.elements.rest.at + (find_in 44 s + 1) = ap (λ (q : Piece). q.at) r.1 in
@@ -59,22 +59,22 @@ unfolding field_reading
 returns-in-None c =
     let f = c.args.f in
     let s = c.elements.rest.text.now in
-    let e = c.first-element.result.0.text.now in
-    let p = c.first-element.ensures.part in
+    let e = c.first_element.result.0.text.now in
+    let p = c.first_element.ensures.part in
     let text = ap (λ (q : Piece). q.text) p in
     let h = MatchOption-at_none (has 44 s ≡ false)
     (λ (x : Part). (has 44 s ≡ true) × (piece x ≡ back_piece 44 (piece c.elements.rest)) × (length e + 1 + length x.text.now ≡ length s))
-    c.in-None.is c.first-element.ensures.rest in
+    c.in-None.is c.first_element.ensures.rest in
     let l = left_none s h in
     let good = sym c.elements.invariant.1 ∙ bad_next f s e c.in-Ok.span text c.in-Ok.ensures.answer _ l c.elements.rest.at _ refl in
     let numbers : (k : ℕ) → k < 64 → get_or c.add.new.self.has k false ≡ any_takes f (split 44 c.args.s.now) k =
     λ k b. any_last f s e c.in-Ok.span text c.in-Ok.ensures.answer _ l refl k _ _ _ (c.add.ensures k b) (c.elements.invariant.2 k b) in
-    let long : length c.stood-for.result.has ≡ 64 = search rules in
-    let values = fill_by_all (holds f c.args.s.now) c.stood-for.result.has 64 false long
-    (λ k b. c.stood-for.ensures k b ∙ standing_same f _ _ numbers k b) in
+    let long : length c.stood_for.result.has ≡ 64 = search rules in
+    let values = fill_by_all (holds f c.args.s.now) c.stood_for.result.has 64 false long
+    (λ k b. c.stood_for.ensures k b ∙ standing_same f _ _ numbers k b) in
     let made : List Bool → Bool → Result FieldSet BadElement = λ v b. Ok (record { values = record { has = v }; starred = b }) in
     record {
-      answer = ap₂ made values c.is-starred.ensures
+      answer = ap₂ made values c.is_starred.ensures
           ∙ sym (ap (λ (o : Option BadElement). unless o (field_set f c.args.s.now)) good);
       within = tt;
     }

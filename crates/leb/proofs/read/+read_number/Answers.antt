@@ -16,16 +16,16 @@ returns-else-b-max t c = none_low _ _ _ _ (first_rest _ 0 (omega arith)) (omega 
 pub returns-then-max-lt-GROUP : goal.returns-then-max-lt-GROUP
 returns-then-max-lt-GROUP t c = none_more _ _ _ _ (first_rest _ 0 (omega arith)) (omega arith) (omega arith)
 
-pub returns-in-err-high : goal.returns-in-err-high
-returns-in-err-high t c = rw c.from-residual.ensures (none_rest _ _ _ _ (first_rest _ 0 (omega arith)) (omega arith) c.in-err-high.ensures)
+pub returns-in_err-high : goal.returns-in_err-high
+returns-in_err-high t c = rw c.from_residual.ensures (none_rest _ _ _ _ (first_rest _ 0 (omega arith)) (omega arith) c.in_err-high.ensures)
 
-pub returns-then-not-is-taken : goal.returns-then-not-is-taken
-returns-then-not-is-taken t c =
-    none_after _ _ _ _ (first_rest _ 0 (omega arith)) c.in-ok-high.high _ c.in-ok-high.ensures.1 (omega arith)
-    (λ h. false≢true (c.if-not-is-taken.ensures.1 h))
+pub returns-then-not-is_taken : goal.returns-then-not-is_taken
+returns-then-not-is_taken t c =
+    none_after _ _ _ _ (first_rest _ 0 (omega arith)) c.in_ok-high.high _ c.in_ok-high.ensures.1 (omega arith)
+    (λ h. false≢true (c.if-not-is_taken.ensures.1 h))
 
 pub returns : goal.returns
 returns t c =
-    let ok = c.if-not-is-taken.ensures.0 refl in
-    some_after _ _ _ _ (first_rest _ 0 (omega arith)) c.in-ok-high.high _ c.in-ok-high.ensures.1
-    (omega arith) (omega (arith, c.type-inv.s 0)) ok.0 ok.1
+    let ok = c.if-not-is_taken.ensures.0 refl in
+    some_after _ _ _ _ (first_rest _ 0 (omega arith)) c.in_ok-high.high _ c.in_ok-high.ensures.1
+    (omega arith) (omega (arith, c.type_inv.s 0)) ok.0 ok.1

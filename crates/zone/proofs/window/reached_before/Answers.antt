@@ -10,10 +10,10 @@ pub returns-then-old-new : goal.returns-then-old-new
 returns-then-old-new g c =
     let off = g.Z.Zone.offsets c.args.z.now in
     let u = c.args.u.0 in
-    let old = c.offset-in-old.ensures ∙ ap off c.earlier.ensures in
-    let new = c.offset-in-new.ensures in
+    let old = c.offset_in-old.ensures ∙ ap off c.earlier.ensures in
+    let new = c.offset_in-new.ensures in
     let t = c.if-old-new.true in
     let same : off (u - look_back) ≡ off u = omega (arith, ints) in
-    c.label-in.ensures
+    c.label_in.ensures
     ∙ ap (label off) c.earlier-then-old-new.ensures
     ∙ sym (reached_level off c.lawful.ensures u (grind (arith, nat_tests)) (grind (arith, nat_tests)) same)

@@ -2,8 +2,8 @@ use Rattle.std.proofs.Common.{arith}
 use Rattle.leb.proofs.Writing.{clear_more, wrote_byte, wrote_past}
 use Rattle.leb.proofs.writer.Writer.byte.Goals as goal
 
-pub invariant-of-self : goal.invariant-of-self
-invariant-of-self c = (omega arith, (clear_more _ _ _ 256 c.args.self.now.clear, tt))
+pub invariant_of-self : goal.invariant_of-self
+invariant_of-self c = (omega arith, (clear_more _ _ _ 256 c.args.self.now.clear, tt))
 
 pub returns-then-self-lt-BLOCK : goal.returns-then-self-lt-BLOCK
 returns-then-self-lt-BLOCK c = wrote_byte c.args.self.now.bytes c.args.self.now.at _ (omega arith) (omega arith)
