@@ -16,7 +16,7 @@ judged_steps f (Some s) =
     go (outside f s.from || outside f s.to) (ltb s.to s.from || eqb s.step 0) refl
   where
     go : (b d : Bool) → (ltb s.to s.from || eqb s.step 0) ≡ d →
-        IfOk {X = Span} {Y = Fault} (cond b (Err OutOfRange) (cond d (Err Turned) (Ok s))) (λ x. 0 < x.step)
+        IfOk {T = Span} {E = Fault} (cond b (Err OutOfRange) (cond d (Err Turned) (Ok s))) (λ x. 0 < x.step)
     go true d e = tt
     go false true e = tt
     go false false e = grind (arith, nat_tests)

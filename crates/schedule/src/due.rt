@@ -42,7 +42,7 @@ impl Moment {
     // What is to be known of minute `u`, found by the zone's offsets.
     pub fn at<Z: Zone>(z: &Z, u: Minute) -> Result<Moment, Refusal>
         ensures { MatchResult result
-            (λ m. (served u.0 ≡ true) × (m.window ≡ window_at (offsets z.now) u.0))
+            (λ m. (served u.0 ≡ true) × (m.window ≡ window_at (Z.offsets z.now) u.0))
             (λ e. (served u.0 ≡ false) × (e ≡ OutOfRange u)) }
     {
         let window = fresh(z, u)?;
@@ -88,7 +88,7 @@ impl Moment {
 
 // Is the position's line due at its minute?
 pub fn due_at<Z: Zone>(z: &Z, jobs: &[Job], p: Position) -> Result<bool, Refusal>
-    ensures { result ≡ due_answer (offsets z.now) jobs.now p }
+    ensures { result ≡ due_answer (Z.offsets z.now) jobs.now p }
 {
     let moment = Moment::at(z, p.minute())?;
     Ok(moment.is_line_due(jobs, p.line()))

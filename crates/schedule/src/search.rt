@@ -33,7 +33,7 @@ fn first_due(moment: &Moment, jobs: &[Job], from: u8) -> Option<u8>
 // What is to be known of a minute at which a line can be due.
 fn moment_in<Z: Zone>(z: &Z, u: Minute) -> Moment
     requires { served u.0 ≡ true }
-    ensures { result.window ≡ window (offsets z.now) u.0 }
+    ensures { result.window ≡ window (Z.offsets z.now) u.0 }
 {
     match Moment::at(z, u) {
         Ok(moment) => moment,
@@ -44,7 +44,7 @@ fn moment_in<Z: Zone>(z: &Z, u: Minute) -> Moment
 // The first due position from `from` on and before minute `before`.
 fn search<Z: Zone>(z: &Z, jobs: &[Job], from: Position, before: Minute) -> Option<Position>
     requires { (bounds from.minute.0 ≡ true) × (bounds before.0 ≡ true) }
-    ensures { NextDue (due_line (offsets z.now) jobs.now) (rank from) before.0 result }
+    ensures { NextDue (due_line (Z.offsets z.now) jobs.now) (rank from) before.0 result }
 {
     let mut u = from.minute().count();
     let mut line = from.line();
@@ -73,7 +73,7 @@ pub fn next_due<Z: Zone>(
     from: Position,
     before: Minute,
 ) -> Result<Option<Position>, Refusal>
-    ensures { SearchAnswer (offsets z.now) jobs.now from before result }
+    ensures { SearchAnswer (Z.offsets z.now) jobs.now from before result }
 {
     if !is_bound(from.minute()) {
         return Err(Refusal::OutOfRange(from.minute()));

@@ -25,7 +25,7 @@ pub(crate) fn is_served(u: Minute) -> bool
 // The offset at a minute of which the zone tells.
 pub(crate) fn offset_in<Z: Zone>(z: &Z, u: Minute) -> i32
     requires { told u.0 ≡ true }
-    ensures { result ≡ offsets z.now u.0 }
+    ensures { result ≡ Z.offsets z.now u.0 }
 {
     match z.offset_at(u) {
         Ok(offset) => offset,
@@ -36,7 +36,7 @@ pub(crate) fn offset_in<Z: Zone>(z: &Z, u: Minute) -> i32
 // The label of a minute of which the zone tells.
 pub(crate) fn label_in<Z: Zone>(z: &Z, u: Minute) -> Label
     requires { told u.0 ≡ true }
-    ensures { result.0 ≡ label_of (offsets z.now) u.0 }
+    ensures { result.0 ≡ label_of (Z.offsets z.now) u.0 }
 {
     z.lawful();
     match z.offset_at(u) {
@@ -48,7 +48,7 @@ pub(crate) fn label_in<Z: Zone>(z: &Z, u: Minute) -> Label
 
 // What the local clock shows at minute `u`.
 pub fn label_at<Z: Zone>(z: &Z, u: Minute) -> Result<Label, Refusal>
-    ensures { result ≡ label_answer (offsets z.now) u }
+    ensures { result ≡ label_answer (Z.offsets z.now) u }
 {
     if is_told(u) {
         return Ok(label_in(z, u));

@@ -28,7 +28,7 @@ fn earlier(u: Minute, k: u32) -> Minute
 // The greatest label that the clock showed lately before `u`, minute by minute.
 fn highest_before<Z: Zone>(z: &Z, u: Minute) -> Label
     requires { served u.0 ≡ true }
-    ensures { result.0 ≡ reached (offsets z.now) u.0 }
+    ensures { result.0 ≡ reached (Z.offsets z.now) u.0 }
 {
     let mut top = 0;
     for k in 0..LOOK_BACK {
@@ -40,7 +40,7 @@ fn highest_before<Z: Zone>(z: &Z, u: Minute) -> Label
 // The same: where the offset is what it was, the law rules out a change since, so the minute before has that label.
 fn reached_before<Z: Zone>(z: &Z, u: Minute) -> Label
     requires { served u.0 ≡ true }
-    ensures { result.0 ≡ reached (offsets z.now) u.0 }
+    ensures { result.0 ≡ reached (Z.offsets z.now) u.0 }
 {
     z.lawful();
     let old = offset_in(z, earlier(u, LOOK_BACK));
@@ -53,7 +53,7 @@ fn reached_before<Z: Zone>(z: &Z, u: Minute) -> Label
 
 // The labels that minute `u` is the first to reach.
 pub fn fresh<Z: Zone>(z: &Z, u: Minute) -> Result<Window, Refusal>
-    ensures { result ≡ fresh_answer (offsets z.now) u }
+    ensures { result ≡ fresh_answer (Z.offsets z.now) u }
 {
     if is_served(u) {
         let above = reached_before(z, u);

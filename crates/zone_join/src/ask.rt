@@ -9,7 +9,7 @@ use zone::Zone;
 // The offset.
 pub(crate) fn offset_in<Z: Zone>(z: &Z, u: Minute) -> i32
     requires { told u.0 ≡ true }
-    ensures { result ≡ offsets z.now u.0 }
+    ensures { result ≡ Z.offsets z.now u.0 }
 {
     match z.offset_at(u) {
         Ok(offset) => offset,
@@ -20,7 +20,7 @@ pub(crate) fn offset_in<Z: Zone>(z: &Z, u: Minute) -> i32
 // The next change.
 pub(crate) fn change_after<Z: Zone>(z: &Z, u: Minute) -> Option<Minute>
     requires { told u.0 ≡ true }
-    ensures { NextChange (offsets z.now) u.0 (option_map (λ m. m.0) result) }
+    ensures { NextChange (Z.offsets z.now) u.0 (option_map (λ m. m.0) result) }
 {
     match z.next_change(u) {
         Ok(next) => next,
