@@ -7,16 +7,16 @@ use Rattle.crontab.specs.File.{lines, lines_reading}
 use Rattle.crontab.proofs.Whole.{prepended, prepended_none, line_taken, line_refused}
 use Rattle.crontab.proofs.file.read_lines.Goals as goal
 
-pub returns-in-err-add-line : goal.returns-in-err-add-line
-returns-in-err-add-line c =
+pub returns-in_err-add_line : goal.returns-in_err-add_line
+returns-in_err-add_line c =
     let l = c.loop-start in
-    let p = err_from_is_err_and c.from-residual.result c.from-residual.ensures.1 in
+    let p = err_from_is_err_and c.from_residual.result c.from_residual.ensures.1 in
     let inside : l.start < length c.args.file.now = omega arith in
     let refused = line_refused c.args.file.now l.start c.scan-end.result inside c.scan-end.ensures.value in
     rw (p.1, p.2)
     (⊎_elim inl
     (λ e. inr (sym l.invariant.2 ∙ ap (prepended (vec_items l.jobs)) (refused l.n _ _ e)))
-    c.in-err-add-line.ensures)
+    c.in_err-add_line.ensures)
 
 pub loop-start-init : goal.loop-start-init
 loop-start-init c =
@@ -31,7 +31,7 @@ loop-start-init c =
 pub loop-start-preserved : goal.loop-start-preserved
 loop-start-preserved c =
     let l = c.loop-start in
-    let a = c.in-ok-add-line.ensures in
+    let a = c.in_ok-add_line.ensures in
     let inside : l.start < length c.args.file.now = omega arith in
     let taken = line_taken c.args.file.now l.start c.scan-end.result inside c.scan-end.ensures.value in (
       omega (arith, c.scan-end.ensures.bound),

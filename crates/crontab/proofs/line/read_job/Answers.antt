@@ -2,6 +2,6 @@ use Rattle.std.proofs.Common.{refl, arith}
 use Rattle.crontab.specs.Words.{past}
 use Rattle.crontab.proofs.line.read_job.Goals as goal
 
-pub field-at-requires : goal.field-at-requires
+pub field_at-requires : goal.field_at-requires
 unfolding past
-field-at-requires c = (refl, (omega arith, c.requires.0))
+field_at-requires c = (refl, (omega arith, c.requires.0))

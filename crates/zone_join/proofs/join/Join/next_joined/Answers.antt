@@ -9,4 +9,4 @@ returns-else-count-2 g c =
     let h = g.B.Zone.offsets self.b in
     next_later f h self.t.0 c.args.u.0 _ (omega arith)
     (λ w a b. c.in-Some.ensures.3 w a (omega arith))
-    c.next-from-join.ensures
+    c.next_from_join.ensures
