@@ -6,17 +6,17 @@ use Rattle.page.specs.Limits.{most_open}
 use Rattle.service.specs.Table.{tickets_of}
 use Rattle.std.proofs.lemmas.Bool.{ltb-true}
 
-pub push-reserved-requires : goal.push-reserved-requires
-push-reserved-requires c =
+pub push_reserved-requires : goal.push_reserved-requires
+push_reserved-requires c =
     omega (
       arith,
-      ltb-true (length (tickets_of (table_in c.args.self.now))) most_open (sym c.if-not-has-place.ensures),
+      ltb-true (length (tickets_of (table_in c.args.self.now))) most_open (sym c.if-not-has_place.ensures),
       tickets_long (vec_items c.args.self.now.entries),
     )
 
 pub returns : goal.returns
 returns c =
     record {
-      answer = c.if-not-has-place.ensures;
-      table = ap (map entry_in) c.push-reserved.ensures.items ∙ table_push (vec_items c.args.self.now.entries) _;
+      answer = c.if-not-has_place.ensures;
+      table = ap (map entry_in) c.push_reserved.ensures.items ∙ table_push (vec_items c.args.self.now.entries) _;
     }
