@@ -12,6 +12,7 @@ use crate::refusal::Fault;
 use disk::Disk;
 use std::alloc::{AllocError, Global};
 use std::io::{Read, Write};
+use std::process::ExitCode;
 use std::{env, fs, io};
 use time::LINES;
 
@@ -116,11 +117,13 @@ fn tell(rt: &HostRuntime, stop: &Stop) -> io::Result<()> {
     }
 }
 
-fn main(rt: HostRuntime) -> Result<(), Stop> {
-    let result = run(&rt);
-    if let Err(stop) = &result {
-        // where standard error fails too, the status is all that is left to say it
-        let _ = tell(&rt, stop);
+fn main(rt: HostRuntime) -> ExitCode {
+    match run(&rt) {
+        Ok(()) => ExitCode::SUCCESS,
+        Err(stop) => {
+            // where standard error fails too, the status is all that is left to say it
+            let _ = tell(&rt, &stop);
+            ExitCode::FAILURE
+        }
     }
-    result
 }

@@ -21,8 +21,8 @@ minutes-init g c =
       omega (arith, c.line-line.ensures, c.args.from.few),
     )
 
-pub moment-in-moment-requires : goal.moment-in-moment-requires
-moment-in-moment-requires g c =
+pub moment_in-moment-requires : goal.moment_in-moment-requires
+moment_in-moment-requires g c =
     let high = bounds-high c.args.before.0 c.requires.1 in
     let fits : c.minutes.u ≤ last_minute = omega (arith, c.minutes-test.true, c.count.ensures) in
     ap served c.new.ensures ∙ served_from c.minutes.u c.minutes.invariant.0 fits
@@ -32,7 +32,7 @@ returns-in-Some g c =
     let off = g.Z.Zone.offsets c.args.z.now in
     let js = c.args.jobs.now in
     let u = c.minutes.u in
-    let w : window off u ≡ c.moment-in-moment.result.window = sym (c.moment-in-moment.ensures ∙ ap (window off) c.new.ensures) in
+    let w : window off u ≡ c.moment_in-moment.result.window = sym (c.moment_in-moment.ensures ∙ ap (window off) c.new.ensures) in
     let h = c.in-Some.ensures in
     let e = ap (λ (m : Minute). m.0) c.minute.ensures in
     let start : rank_of c.count-u.result c.line-line.result ≡ rank c.args.from = omega (arith, c.count-u.ensures, c.line-line.ensures) in
@@ -49,8 +49,8 @@ minutes-preserved g c =
     let off = g.Z.Zone.offsets c.args.z.now in
     let js = c.args.jobs.now in
     let u = c.minutes.u in
-    let w : window off u ≡ c.moment-in-moment.result.window = sym (c.moment-in-moment.ensures ∙ ap (window off) c.new.ensures) in
-    let h = c.in-default.ensures in
+    let w : window off u ≡ c.moment_in-moment.result.window = sym (c.moment_in-moment.ensures ∙ ap (window off) c.new.ensures) in
+    let h = c.in_default.ensures in
     let up : u * lines + lines ≡ rank_of (u + 1) 0 = omega arith in
     let a = rank_of c.count-u.result c.line-line.result in (
       omega (arith, c.minutes.invariant.0),

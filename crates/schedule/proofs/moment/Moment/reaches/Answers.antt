@@ -20,6 +20,6 @@ returns-else-matches c =
     let a = c.args.self.now.window.above.0 in
     let j = c.args.job.now in
     let miss = sym (c.if-matches.ensures ∙ ap (λ (p : Parts). matches_parts j p) c.args.self.now.read) in
-    c.any-matches.ensures
+    c.any_matches.ensures
     ∙ ap (λ (x : ℕ). some_of (x - a) (matches j) x) c.previous.ensures
     ∙ sym (some_go (m - a) (m - 1 - a) (matches j) m (omega (arith, c.count.ensures, c.count-2.ensures)) miss)
