@@ -19,7 +19,7 @@ fn byte(pair: &[u8]) -> Option<u8> {
 // The bytes that the digits say, or none if they say no bytes; `-` stands for no byte at all.
 pub(crate) fn decode(heap: Global, digits: &[u8]) -> Result<Option<Vec<u8>>, AllocError> {
     let mut bytes = Vec::new(heap);
-    if digits == b"-" {
+    if digits == b"-".as_slice() {
         return Ok(Some(bytes));
     }
     for pair in digits.chunks(2) {

@@ -76,7 +76,7 @@ fn zone_line(text: &[u8]) -> Option<(Entry, &[u8])>
 {
     let (line, rest) = cut(text, b'\n')?;
     let (word, numbers) = cut(line, b' ')?;
-    if word != b"zone" {
+    if word != b"zone".as_slice() {
         return None;
     }
     let (m, o) = cut(numbers, b' ')?;
