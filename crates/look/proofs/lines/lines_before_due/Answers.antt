@@ -4,9 +4,9 @@ use Rattle.schedule.specs.Due.{line_due}
 use Rattle.std.proofs.lemmas.Option.{slice_get_past}
 use Rattle.std.proofs.lemmas.Bool.{cases_lt}
 
-pub returns-then-is-line-due : goal.returns-then-is-line-due
-returns-then-is-line-due c =
-    (omega (arith, c.lines-known-k-end.ensures.few), sym c.if-is-line-due.ensures, c.loop-k.invariant)
+pub returns-then-is_line_due : goal.returns-then-is_line_due
+returns-then-is_line_due c =
+    (omega (arith, c.lines_known-k-end.ensures.few), sym c.if-is_line_due.ensures, c.loop-k.invariant)
 
 pub returns : goal.returns
 returns c = λ k l.
@@ -14,5 +14,5 @@ returns c = λ k l.
     (λ h.
     ap (line_due c.args.moment.now.window)
     (slice_get_past c.args.jobs.now (c.args.line + k)
-    (omega (arith, c.lines-known-k-end.ensures.lacking (omega arith)))))
+    (omega (arith, c.lines_known-k-end.ensures.lacking (omega arith)))))
     (cases_lt k c.loop-k.k)

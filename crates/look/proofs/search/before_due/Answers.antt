@@ -16,9 +16,9 @@ returns-in-Some g c =
     let e = ap (λ (m : Minute). m.0) c.minute.ensures in
     let start : first ≡ rank c.args.from = omega (arith, c.count-minute.ensures, c.line-line.ensures) in
     let a : ℕ = first + c.minutes.examined in
-    let w = c.moment-in-moment.ensures ∙ ap (window off) c.new.ensures in
+    let w = c.moment_in-moment.ensures ∙ ap (window off) c.new.ensures in
     let h = c.in-Some.ensures in
-    let n = c.lines-left-n.ensures in
+    let n = c.lines_left-n.ensures in
     let here =
     stopped P c.in-Some.before a (c.args.count - c.minutes.examined) (omega (arith, h.0, n))
     (λ k l.
@@ -35,17 +35,17 @@ minutes-preserved g c =
     let P : ℕ → Bool = due_of off js in
     let first : ℕ = rank_of c.count-minute.result c.line-line.result in
     let x : ℕ = c.minutes.examined in
-    let m : ℕ = c.lines-left-n.result in
+    let m : ℕ = c.lines_left-n.result in
     let at = c.minutes.invariant.3 (omega arith) in
-    let n = c.lines-left-n.ensures in
-    let w = c.moment-in-moment.ensures ∙ ap (window off) c.new.ensures in
+    let n = c.lines_left-n.ensures in
+    let w = c.moment_in-moment.ensures ∙ ap (window off) c.new.ensures in
     let rest : ℕ = c.args.count - (x + m) in
     let split : c.args.count - x ≡ m + rest = omega (arith, n) in
     let past =
     passed P m (first + x) rest
     (λ k l.
     due_here off js _ c.minutes.minute c.minutes.line k (first + x) false w (omega (arith, n, l)) at
-    (c.in-default.ensures k l)) in (
+    (c.in_default.ensures k l)) in (
       omega (arith, n),
       omega (arith, c.minutes.invariant.1),
       omega arith,
