@@ -92,7 +92,7 @@ pub(crate) fn write_due(heap: Global, out: &mut Vec<u8>, question: &str) -> io::
     if let Some(refusal) = checked.refusal {
         return write_refusal(out, refusal);
     }
-    let file = format!(heap, "{fields} x\n")?;
+    let file = format!(in heap; "{fields} x\n")?;
     let u = Minute::new(text::count(u)?);
     match crontab::read(heap, file.as_bytes()) {
         Ok(taken) => write_answer(out, &checked.zone, taken.jobs(), u),
