@@ -1,10 +1,10 @@
 -- The words of a line, one after the other.
-use Rattle.std.proofs.Common.{◌≡◌, ℕ, ◌+◌, ◌≤◌, List, length, Ok, Err, Result, sym, refl, subst, add-one, MatchResult}
+use Rattle.std.proofs.Common.{◌≡◌, ℕ, ◌+◌, ◌≤◌, List, length, Ok, Err, Result, refl, subst, add-one, MatchResult}
 use Rattle.fields.specs.declared.element.Field.{Field}
 use Rattle.fields.specs.declared.reader.FieldSet.{FieldSet}
 use Rattle.crontab.specs.declared.refusal.Refusal.{Refusal}
 use Rattle.crontab.specs.Words.{end, past}
-use Rattle.crontab.specs.Line.{field_after, field_at, words_before}
+use Rattle.crontab.specs.Line.{field_after, words_before}
 
 pub past_next : (s : List ℕ) (k : ℕ) → end s (past s k) ≡ past s (k + 1)
 unfolding past

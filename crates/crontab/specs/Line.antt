@@ -1,5 +1,5 @@
 -- A line of the file: what job it holds, or its first refusal.
-use Rattle.std.specs.Prelude.{ℕ, ◌+◌, ◌-◌, Bool, true, false, cond, List, length, Some, None, Ok, Err, Option, Result, nat_le, nat_lt}
+use Rattle.std.specs.Prelude.{ℕ, ◌+◌, ◌-◌, cond, List, length, Some, None, Ok, Err, Option, Result, nat_le, nat_lt}
 use Rattle.fields.specs.declared.element.Field.{Field}
 use Rattle.fields.specs.declared.element.Field.TheVariants.{Minute, Hour, Day, Month, Weekday}
 use Rattle.fields.specs.declared.reader.BadElement.{BadElement}

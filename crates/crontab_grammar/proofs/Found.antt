@@ -1,14 +1,14 @@
 -- A job's command is the file's own bytes.
-use Rattle.std.proofs.Common.{◌≡◌, ℕ, zero, suc, ◌+◌, ◌-◌, ◌<◌, ◌≤◌, List, [], ◌∷◌, ◌++◌, length, take, drop, Some, None, Option, sym, refl, ap, ◌∙◌, subst, arith}
+use Rattle.std.proofs.Common.{◌≡◌, ℕ, zero, suc, ◌+◌, ◌<◌, ◌≤◌, List, [], ◌∷◌, ◌++◌, length, take, drop, Some, sym, refl, ap, ◌∙◌, subst, arith}
 use Rattle.std.proofs.lemmas.List.{append_assoc, drop_at, drop-drop, drop-take, length-append, length-drop, length-take-le}
-use Rattle.std.proofs.lemmas.Bool.{le-leb, cases_lt}
+use Rattle.std.proofs.lemmas.Bool.{le-leb}
 use Rattle.std.specs.List.{slice_get}
 use Rattle.scan.specs.Scan.{is}
 use Rattle.scan.specs.declared.Kind.TheVariants.{Byte}
 use Rattle.scan.proofs.First.{first_le}
 use Rattle.field_grammar.proofs.Numbers.{none_some}
 use Rattle.crontab.specs.declared.job.Job.{Job}
-use Rattle.crontab.specs.File.{lines, bytes_of}
+use Rattle.crontab.specs.File.{lines}
 use Rattle.crontab.proofs.Whole.{line_length, lines_step}
 use Rattle.crontab_grammar.specs.Grammar.{Word, JobOf, JobsOf, none, idle, job}
 use Rattle.crontab_grammar.specs.Laws.{Found, TakesBytes}

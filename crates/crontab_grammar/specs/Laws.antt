@@ -1,5 +1,5 @@
 -- That a crontab is read exactly by the grammar.
-use Rattle.std.specs.Prelude.{◌≡◌, ℕ, ◌+◌, ◌<◌, ◌≤◌, true, false, ◌↔◌, List, [], length, take, drop, Some, Ok, Err, slice_index_or}
+use Rattle.std.specs.Prelude.{◌≡◌, ℕ, ◌+◌, ◌<◌, ◌≤◌, true, false, ◌↔◌, List, length, take, drop, Some, Ok, Err, slice_index_or}
 use Rattle.std.specs.List.{slice_get}
 use Rattle.fields.specs.declared.element.Field.{Field}
 use Rattle.fields.specs.declared.reader.FieldSet.{FieldSet}

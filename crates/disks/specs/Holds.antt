@@ -5,7 +5,7 @@ use Rattle.std.proofs.Math.Path.{fun_ext}
 use Rattle.std.proofs.Math.Decide.{ℕ_discrete}
 use Rattle.std.proofs.lemmas.List.{append-nil, drop_all, take_all}
 use Rattle.disk.specs.Changes.{AtMost}
-use Rattle.disk.specs.Contents.{Content, torn, held, Among, Only, read_of}
+use Rattle.disk.specs.Contents.{Content, torn, Among, Only, read_of}
 use Rattle.disks.specs.declared.block.Block.{Block}
 use Rattle.disks.specs.declared.fate.Fate.{Fate}
 use Rattle.disks.specs.declared.fate.Fate.TheVariants.{Old, New, Torn}

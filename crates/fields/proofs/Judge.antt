@@ -1,9 +1,9 @@
-use Rattle.std.proofs.Common.{◌≡◌, ℕ, ◌<◌, Bool, true, false, cond, ◌||◌, eqb, ltb, List, IfOk, Some, None, Ok, Err, Option, Result, refl, arith}
+use Rattle.std.proofs.Common.{◌≡◌, ℕ, ◌<◌, Bool, true, false, cond, ◌||◌, eqb, ltb, List, IfOk, Some, None, Ok, Err, Option, refl, arith}
 use Rattle.std.proofs.lemmas.Bool.Decides.{nat_tests}
 use Rattle.fields.specs.declared.element.Span.{Span}
 use Rattle.fields.specs.declared.element.Field.{Field}
 use Rattle.fields.specs.declared.reader.Fault.{Fault}
-use Rattle.fields.specs.declared.reader.Fault.TheVariants.{NoSuchElement, OutOfRange, Turned}
+use Rattle.fields.specs.declared.reader.Fault.TheVariants.{OutOfRange, Turned}
 use Rattle.fields.specs.Bytes.{Piece, has, front, front_piece, back_piece}
 use Rattle.fields.specs.Element.{Form, star, each, single, range, range_each, unknown, star?, form, spanned, element}
 use Rattle.fields.specs.Values.{outside}

@@ -1,5 +1,5 @@
 -- A name in a list of names.
-use Rattle.std.proofs.Common.{◌≡◌, ℕ, suc, ◌+◌, ◌<◌, ◌≤◌, true, false, cond, List, [], length, get_or, drop, Some, None, Option, sym, refl, ap, ◌∙◌, add-one, arith, drop_of_length-le, drop-cons, eq-eqb}
+use Rattle.std.proofs.Common.{◌≡◌, ℕ, suc, ◌+◌, ◌<◌, ◌≤◌, true, false, List, [], length, get_or, drop, Some, None, Option, refl, ap, ◌∙◌, add-one, arith, drop_of_length-le, drop-cons, eq-eqb}
 use Rattle.fields.specs.Names.{named, lower, name_in, spells}
 
 module _ (k : ℕ) (ns : List (List ℕ)) (i : ℕ) (h : i < length ns) (a b c : ℕ) where

@@ -1,5 +1,5 @@
 -- A field's elements, one after the other.
-use Rattle.std.proofs.Common.{◌≡◌, ℕ, zero, suc, ◌+◌, ◌-◌, ◌<◌, ◌≤◌, Bool, true, false, cond, ◌&&◌, ◌||◌, eqb, ltb, List, [], ◌∷◌, length, take, drop, Some, None, Ok, Err, Result, sym, refl, ap, ◌∙◌, subst, arith, ltb-true, lt-ltb}
+use Rattle.std.proofs.Common.{◌≡◌, ℕ, suc, ◌+◌, ◌<◌, Bool, true, false, cond, ◌&&◌, ◌||◌, eqb, List, [], ◌∷◌, length, Ok, Result, sym, refl, ap, ◌∙◌, arith, lt-ltb}
 use lib.Dec.{leb-suc-suc}
 use Rattle.fields.specs.declared.element.Span.{Span}
 use Rattle.fields.specs.declared.element.Field.{Field}
@@ -7,8 +7,7 @@ use Rattle.fields.specs.declared.element.Field.TheVariants.{Minute, Hour, Day, M
 use Rattle.fields.specs.declared.reader.Fault.{Fault}
 use Rattle.fields.specs.Bytes.{find_in, has, front, back}
 use Rattle.fields.specs.Values.{standing, verdict, after, taken, takes, first_bad, any_takes}
-use Rattle.fields.specs.Bytes.{split, longer}
-use Rattle.std.proofs.lemmas.List.{length-take-le}
+use Rattle.fields.specs.Bytes.{split}
 
 -- the first part, and the parts of the rest
 pub split_step : (b : ℕ) (s : List ℕ) → split b s ≡ front b s ∷ cond (has b s) (split b (back b s)) []

@@ -1,5 +1,5 @@
 -- Parts of a text, and numbers.
-use Rattle.std.specs.Prelude.{ℕ, zero, suc, ◌+◌, ◌-◌, ◌*◌, Bool, true, false, cond, ◌&&◌, List, [], ◌∷◌, length, take, drop, Some, None, Option, ◌==◌, nat_le, nat_lt, slice_index}
+use Rattle.std.specs.Prelude.{ℕ, suc, ◌+◌, ◌-◌, ◌*◌, Bool, cond, ◌&&◌, List, [], ◌∷◌, length, take, drop, Some, None, Option, ◌==◌, nat_le, nat_lt, slice_index}
 use Rattle.scan.specs.Scan.{before_first, is}
 use Rattle.scan.specs.declared.Kind.TheVariants.{Byte}
 use Rattle.fields.specs.declared.bytes.Part.{Part}

@@ -1,5 +1,5 @@
 -- Which elements are refused, and which values a field holds.
-use Rattle.std.specs.Prelude.{ℕ, zero, suc, ◌+◌, ◌-◌, ◌%◌, Bool, true, false, cond, ◌&&◌, ◌||◌, List, [], ◌∷◌, map, length, Some, None, Ok, Err, Option, Result, ◌==◌, nat_le, nat_lt, slice_index}
+use Rattle.std.specs.Prelude.{ℕ, ◌+◌, ◌-◌, ◌%◌, Bool, false, cond, ◌&&◌, ◌||◌, List, [], ◌∷◌, map, length, Some, None, Ok, Err, Option, Result, ◌==◌, nat_le, nat_lt, slice_index}
 use Rattle.std.specs.List.{range_with_len}
 use Rattle.fields.specs.declared.element.Span.{Span}
 use Rattle.fields.specs.declared.element.Field.{Field}
@@ -8,7 +8,6 @@ use Rattle.fields.specs.declared.reader.Fault.{Fault}
 use Rattle.fields.specs.declared.reader.Fault.TheVariants.{NoSuchElement, OutOfRange, Turned}
 use Rattle.fields.specs.declared.reader.BadElement.{BadElement}
 use Rattle.fields.specs.declared.reader.FieldSet.{FieldSet}
-use Rattle.fields.specs.declared.values.Values.{Values}
 use Rattle.fields.specs.Bytes.{split}
 use Rattle.fields.specs.Element.{low, high, element}
 

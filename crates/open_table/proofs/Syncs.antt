@@ -1,13 +1,12 @@
 -- One turn of a table's sync.
-use Rattle.std.proofs.Common.{◌≡◌, ℕ, zero, suc, ◌<◌, ◌≤◌, List, [], ◌∷◌, ◌++◌, map, length, get_or, take, drop, set, Some, None, Option, sym, refl, ap, ◌∙◌, le_of_suc-le-suc, not-suc-le-zero}
+use Rattle.std.proofs.Common.{◌≡◌, ℕ, zero, suc, ◌<◌, ◌≤◌, List, [], ◌∷◌, ◌++◌, map, length, get_or, take, drop, set, Some, None, Option, refl, ap, ◌∙◌, le_of_suc-le-suc, not-suc-le-zero}
 use Rattle.open_table.specs.Stages.{after_sync}
-use Rattle.open_table.specs.Tables.{entry_in, stage_in}
+use Rattle.open_table.specs.Tables.{entry_in}
 use Rattle.open_table.specs.declared.stage.Entry.{Entry}
 use Rattle.open_table.specs.declared.stage.Stage.{Stage}
 use Rattle.open_table.specs.declared.stage.Stage.TheVariants.{Written, Logged, Running, Finished, Closing}
 use Rattle.service.specs.Table as model
 use Rattle.std.specs.List.{remove}
-use Rattle.time.specs.Position.{rank}
 use Rattle.time.specs.declared.position.Position.{Position}
 
 abbrev pub at_stage : Entry → Stage → Entry

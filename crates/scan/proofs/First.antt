@@ -1,6 +1,5 @@
 -- The first byte that passes a test.
-use Rattle.std.proofs.Common.{◌≡◌, ℕ, suc, ◌+◌, ◌<◌, ◌≤◌, Bool, true, false, cond, List, [], ◌∷◌, length, get_or, drop, refl, add-one, arith, drop_of_length-le, drop-cons}
-use Rattle.std.proofs.lemmas.Bool.Decides.{nat_tests}
+use Rattle.std.proofs.Common.{◌≡◌, ℕ, suc, ◌+◌, ◌<◌, ◌≤◌, Bool, true, false, cond, List, [], ◌∷◌, length, get_or, drop, add-one, arith, drop_of_length-le, drop-cons}
 use Rattle.scan.specs.Scan.{before_first}
 
 module _ (p : ℕ → Bool) (s : List ℕ) (i : ℕ) (h : i < length s) where

@@ -1,13 +1,12 @@
 -- Labels that a minute is the first to reach, one by one.
-use Rattle.std.proofs.Common.{◌≡◌, ℕ, zero, suc, ◌+◌, ◌-◌, ◌<◌, ◌≤◌, max, Bool, true, false, ℤ, sym, refl, ap, ◌∙◌, subst, arith, lit<}
+use Rattle.std.proofs.Common.{◌≡◌, ℕ, zero, suc, ◌+◌, ◌-◌, ◌<◌, ◌≤◌, Bool, true, false, ℤ, sym, refl, ap, ◌∙◌, subst, arith, lit<}
 use native.Mathlib.Decide.{ℕ_discrete}
 use Rattle.std.proofs.lemmas.Bool.{both_ways}
 use Rattle.zone.specs.Limits.{look_back}
 use Rattle.zone.specs.Offsets.{label, highest, reached}
-use Rattle.crontab.specs.declared.job.Job.{Job}
 use Rattle.crontab.specs.Job.{wild}
 use Rattle.schedule.specs.Match.{matches}
-use Rattle.schedule.specs.Due.{Fresh, Due, DueBy, DueMeans, some_of, due_in}
+use Rattle.schedule.specs.Due.{DueBy, DueMeans, some_of, due_in}
 
 -- what a search of n numbers up to m finds
 record Passing (p : ℕ → Bool) (n m : ℕ) : Type 0 where

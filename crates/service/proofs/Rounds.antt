@@ -19,7 +19,7 @@ use Rattle.service.proofs.Lists.{clash}
 use Rattle.service.proofs.LookLog.{LookCase, case_out, case_spent, case_level, case_full, look_part, Enough, LogCase, log_none, log_done, log_air, log_part}
 use Rattle.service.proofs.More.{more}
 use Rattle.service.proofs.Promises.{holds}
-use Rattle.service.proofs.SyncSettle.{SyncCase, sync_none, sync_done, sync_part, LaunchCase, launch_none, launch_full, launch_done, launch_part, fewer, collect_part, settle_part}
+use Rattle.service.proofs.SyncSettle.{SyncCase, sync_none, sync_done, sync_part, LaunchCase, launch_none, launch_full, launch_done, launch_part, collect_part, settle_part}
 use Rattle.service.proofs.Work.{newest_with, Place, waits, waiting, left, work, pages, Eases, eases_trans}
 use Rattle.service.specs.Causes.{NoneLogged}
 use Rattle.service.specs.Events.{History}

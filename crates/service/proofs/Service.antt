@@ -21,7 +21,6 @@ use Rattle.service.specs.Calls.{Collecting, collecting_18, collecting_handed_bac
 use Rattle.service.specs.Causes.{ReadingCause, reading_13, reading, LookingCause, looking_18, looking_19, looking_due, looking_level, looking_spent, LoggingCause, logging_20, logging_21, logging_22, logging, SyncingCause, syncing_nothing, syncing, LaunchingCause, launching_none, launching_23, launching, SettlingCause, settling_20, settling_21, settling_22, settling, HandingBackCause, handing_due_20, handing_finish_20, handing_due, handing_finish}
 use Rattle.service.specs.Events.{Event, History}
 use Rattle.service.specs.Histories.{add_flight, synced_pages, Launched, LaunchedSince}
-use Rattle.service.specs.Outcomes.{earlier}
 use Rattle.service.specs.Promises.{InOrderOf, AgainOf}
 use Rattle.service.specs.Service.{Call, call_reading, call_look, call_log, call_sync, call_launch, call_collect, call_settle, call_hand_back, call_cut}
 use Rattle.service.specs.Setting.{Setting, due_at, first_position}

@@ -8,7 +8,6 @@ use Rattle.service.specs.Calls.{Reading, Looking, Logging, Launching, Settling, 
 use Rattle.service.specs.Events.{gives_slip, level, spent, Asked, Beside, looked, handed_back, rejected, Event, was_read, was_logged, launched, settled, replied}
 use Rattle.service.specs.Limits.{most_examined}
 use Rattle.service.specs.Outcomes.{LogWrites, SettleWrites}
-use Rattle.service.specs.Script.{launches}
 use Rattle.service.specs.Service.{Call}
 use Rattle.service.specs.Setting.{Setting, due_at, NoneDue}
 use Rattle.service.specs.Table.{logged, HasStage}

@@ -1,4 +1,4 @@
-use Rattle.std.proofs.Common.{◌≡◌, ℕ, suc, ◌+◌, ◌-◌, ◌<◌, ◌≤◌, sym, ap, ◌∙◌, arith}
+use Rattle.std.proofs.Common.{◌≡◌, ℕ, ◌+◌, ◌-◌, ◌<◌, ◌≤◌, sym, ap, ◌∙◌, arith}
 use Rattle.calendar.specs.Calendar.{from_year, year_days}
 use Rattle.calendar.proofs.Count.{year_long, year_short, year_go, year_stop}
 use Rattle.calendar.proofs.year_of.Goals as goal

@@ -1,4 +1,4 @@
-use Rattle.std.proofs.Common.{◌≡◌, sym, ◌∙◌, arith}
+use Rattle.std.proofs.Common.{sym, ◌∙◌, arith}
 use Rattle.scan.specs.Scan.{is}
 use Rattle.scan.proofs.First.{first_go, first_stop, first_end}
 use Rattle.scan.proofs.scan.Goals as goal

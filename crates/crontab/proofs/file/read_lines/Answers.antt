@@ -1,8 +1,6 @@
-use Rattle.std.proofs.Common.{◌≡◌, ℕ, ◌<◌, List, length, Ok, Err, vec_items, vec_len, Result, sym, ap, ◌∙◌, inl, inr, ⊎_elim, arith}
+use Rattle.std.proofs.Common.{ℕ, ◌<◌, List, length, Ok, vec_items, vec_len, sym, ap, ◌∙◌, inl, inr, ⊎_elim, arith}
 use Rattle.std.proofs.lemmas.List.{append-nil, drop_all}
 use Rattle.std.proofs.lemmas.Result.{err_from_is_err_and}
-use Rattle.crontab.specs.declared.job.Job.{Job}
-use Rattle.crontab.specs.declared.refusal.Refusal.{Refusal}
 use Rattle.crontab.specs.File.{lines, lines_reading}
 use Rattle.crontab.proofs.Whole.{prepended, prepended_none, line_taken, line_refused}
 use Rattle.crontab.proofs.file.read_lines.Goals as goal

@@ -1,4 +1,4 @@
-use Rattle.std.proofs.Common.{◌≡◌, sym, ◌∙◌, arith}
+use Rattle.std.proofs.Common.{sym, ◌∙◌, arith}
 use Rattle.fields.proofs.Name.{named_go, named_stop, named_end}
 use Rattle.fields.proofs.names.find_name.Goals as goal
 

@@ -1,4 +1,4 @@
-use Rattle.std.proofs.Common.{◌≤◌, length, sym, arith, take_all, ltb-false}
+use Rattle.std.proofs.Common.{◌≤◌, length, sym, take_all, ltb-false}
 use Rattle.fields.specs.Bytes.{find_in}
 use Rattle.fields.proofs.reader.first_element.Goals as goal
 

@@ -1,4 +1,4 @@
-use Rattle.std.proofs.Common.{◌≡◌, ℕ, ◌+◌, ◌<◌, ◌≤◌, Bool, true, false, ◌||◌, List, [], length, get_or, Ok, Err, Option, Result, sym, refl, ap, ◌∙◌, ap₂, arith, rules}
+use Rattle.std.proofs.Common.{◌≡◌, ℕ, ◌+◌, ◌<◌, Bool, true, false, ◌||◌, List, length, get_or, Ok, Err, Option, Result, sym, refl, ap, ◌∙◌, ap₂, arith, rules}
 use Rattle.std.proofs.lemmas.Option.{MatchOption-at_some, MatchOption-at_none}
 use Rattle.std.proofs.lemmas.List.{length-take-le}
 use Rattle.std.proofs.lemmas.List.FromFn.{fill_by_all}
@@ -6,7 +6,7 @@ use Rattle.fields.specs.declared.bytes.Part.{Part}
 use Rattle.fields.specs.declared.reader.BadElement.{BadElement}
 use Rattle.fields.specs.declared.reader.FieldSet.{FieldSet}
 use Rattle.fields.specs.Bytes.{Piece, piece, find_in, has, back_piece}
-use Rattle.fields.specs.Values.{any_takes, standing, unless, field_set, field_reading, holds}
+use Rattle.fields.specs.Values.{any_takes, unless, field_set, field_reading, holds}
 use Rattle.fields.specs.Bytes.{split}
 use Rattle.scan.proofs.First.{first_le}
 use Rattle.scan.specs.Scan.{is}

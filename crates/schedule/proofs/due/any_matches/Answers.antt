@@ -1,4 +1,4 @@
-use Rattle.std.proofs.Common.{◌≡◌, ℕ, ◌-◌, sym, ap, ◌∙◌, arith}
+use Rattle.std.proofs.Common.{ℕ, ◌-◌, sym, ap, ◌∙◌, arith}
 use Rattle.schedule.specs.declared.parts.Parts.{Parts}
 use Rattle.schedule.specs.Due.{some_of}
 use Rattle.schedule.specs.Match.{matches, matches_parts}

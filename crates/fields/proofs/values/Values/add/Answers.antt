@@ -1,4 +1,4 @@
-use Rattle.std.proofs.Common.{◌≡◌, ◌||◌, sym, ◌∙◌, ap₂, arith, length-set, rules}
+use Rattle.std.proofs.Common.{◌||◌, ◌∙◌, ap₂, arith, length-set}
 use Rattle.fields.specs.Values.{takes}
 use Rattle.fields.proofs.Add.{add_more, add_rest}
 use Rattle.fields.proofs.values.Values.add.Goals as goal

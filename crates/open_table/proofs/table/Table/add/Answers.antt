@@ -1,4 +1,4 @@
-use Rattle.std.proofs.Common.{◌≡◌, map, length, vec_items, sym, refl, ap, ◌∙◌, arith}
+use Rattle.std.proofs.Common.{map, length, vec_items, sym, ap, ◌∙◌, arith}
 use Rattle.open_table.proofs.Syncs.{tickets_long, table_push}
 use Rattle.open_table.proofs.table.Table.add.Goals as goal
 use Rattle.open_table.specs.Tables.{entry_in, table_in}

@@ -1,4 +1,4 @@
-use Rattle.std.proofs.Common.{◌≡◌, ltb, length, vec_items, sym, ap, ◌∙◌, arith}
+use Rattle.std.proofs.Common.{◌≡◌, ltb, length, vec_items, ap, arith}
 use Rattle.open_table.proofs.Syncs.{tickets_long}
 use Rattle.open_table.proofs.table.Table.has_place.Goals as goal
 use Rattle.open_table.specs.Tables.{table_in}
