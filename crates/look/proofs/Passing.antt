@@ -1,5 +1,5 @@
 -- Positions that are passed because none of them is due.
-use Rattle.std.proofs.Common.{◌≡◌, ℕ, zero, suc, ◌+◌, ◌-◌, ◌*◌, ◌/◌, ◌%◌, ◌<◌, ◌≤◌, Bool, true, false, cond, leb, List, length, ℤ, sym, refl, ap, ◌∙◌, subst, add-zero, add-suc, suc-add, zero-add, arith}
+use Rattle.std.proofs.Common.{◌≡◌, ℕ, zero, suc, ◌+◌, ◌-◌, ◌/◌, ◌%◌, ◌<◌, Bool, true, false, cond, List, ℤ, sym, ap, ◌∙◌, subst, add-zero, suc-add, zero-add, arith}
 use Rattle.crontab.specs.declared.job.Job.{Job}
 use Rattle.look.specs.Examined.{due_of}
 use Rattle.schedule.specs.Due.{line_due}

@@ -1,5 +1,5 @@
 -- When lines are due across the clock changes of one year, reckoned by hand from the bytes of a crontab.
-use Rattle.std.specs.Prelude.{◌≡◌, ℕ, zero, suc, ◌+◌, ◌/◌, ◌%◌, ◌<◌, Bool, true, false, List, [], ◌∷◌, ℤ, pos, Some, None, Ok, Err, codes, Option, Result}
+use Rattle.std.specs.Prelude.{◌≡◌, ℕ, zero, suc, ◌+◌, ◌/◌, ◌%◌, Bool, true, false, List, [], ◌∷◌, ℤ, pos, Some, None, Ok, Err, codes, Option, Result}
 use Rattle.std.specs.List.{slice_get}
 use Rattle.calendar.specs.Calendar.{weekday}
 use Rattle.zone.specs.Table.{table_fault, table_offset}

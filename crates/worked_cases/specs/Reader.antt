@@ -1,5 +1,5 @@
 -- Crontabs worked out by hand: what each is refused for, or what its first job line says.
-use Rattle.std.specs.Prelude.{◌≡◌, ℕ, zero, suc, ◌+◌, Bool, true, false, List, [], ◌∷◌, ◌++◌, length, Some, None, Ok, Err, codes, Option, Result}
+use Rattle.std.specs.Prelude.{◌≡◌, ℕ, zero, suc, ◌+◌, Bool, true, false, List, [], ◌∷◌, ◌++◌, Some, None, Ok, Err, codes, Option, Result}
 use Rattle.fields.specs.declared.element.Field.{Field}
 use Rattle.fields.specs.declared.element.Field.TheVariants.{Minute, Hour, Day, Month, Weekday}
 use Rattle.crontab.specs.declared.refusal.Place.{Place}
@@ -8,7 +8,7 @@ use Rattle.crontab.specs.declared.refusal.Refusal.{Refusal}
 use Rattle.crontab.specs.declared.job.Job.{Job}
 use Rattle.crontab.specs.Refusal.{code_of}
 use Rattle.crontab.specs.Job.{field_of, wild}
-use Rattle.crontab.specs.File.{file_reading, command_of}
+use Rattle.crontab.specs.File.{file_reading}
 
 -- a refusal as it is shown: its number, then line, column and field as far as they stand beside it
 abbrev pub at : Option Place → List ℕ

@@ -1,4 +1,4 @@
-use Rattle.std.proofs.Common.{◌≡◌, ℕ, ◌+◌, ◌-◌, ◌<◌, Bool, true, false, sym, ap, ◌∙◌, add_assoc, arith}
+use Rattle.std.proofs.Common.{◌≡◌, ℕ, ◌+◌, ◌-◌, Bool, true, false, sym, ap, ◌∙◌, add_assoc, arith}
 use Rattle.look.proofs.Passing.{passed, stopped, due_here}
 use Rattle.look.proofs.search.before_due.Goals as goal
 use Rattle.look.specs.Examined.{due_of}

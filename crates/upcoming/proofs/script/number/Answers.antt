@@ -1,4 +1,4 @@
-use Rattle.std.proofs.Common.{◌≡◌, ◌<◌, length, sym, ◌∙◌, arith, rules}
+use Rattle.std.proofs.Common.{◌<◌, length, sym, ◌∙◌, arith, rules}
 use Rattle.upcoming.proofs.Digits.{all_read, digit_read, no_digit, some_bytes}
 use Rattle.upcoming.proofs.script.number.Goals as goal
 
