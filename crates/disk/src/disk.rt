@@ -17,7 +17,7 @@ pub trait Disk {
     // what each block may hold once the power has failed: a set, so only membership counts
     ghost possible: { Self → ℕ → List Content };
 
-    // a member and not a law, so that a clause can cite it
+    // it stands before the calls, so that their clauses can cite it
     ghost many: { (d : Self) → fewest_blocks ≤ count d };
 
     // How many blocks there are.

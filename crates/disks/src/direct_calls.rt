@@ -51,9 +51,9 @@ impl Disk for DirectDisk {
 
     ghost many = { λ d. d.many };
 
-    ghost few = { first_of (Prim.search rules, Prim.grind (arith, Self.row.coded.inj)) };
+    ghost few = { Prim.search rules };
 
-    ghost includes = { first_of (Prim.search rules, Prim.grind (arith, Self.row.coded.inj)) };
+    ghost includes = { Prim.search rules };
 
     ghost past = { λ d i h. at_past held torn d.blocks.items i (omega (arith, d.blocks.ok.0)) };
 

@@ -68,7 +68,7 @@ impl Disk for HoldingDisk {
 
     ghost many = { λ d. d.many };
 
-    ghost few = { first_of (Prim.search rules, Prim.grind (arith, Self.row.coded.inj)) };
+    ghost few = { Prim.search rules };
 
     ghost includes = { λ d i. Holds.includes d.blocks.items i };
 

@@ -1,7 +1,7 @@
 // The elements of a field, as parts of the field's own bytes.
 ghost use Rattle.std.specs.Prelude.{◌≡◌, ◌+◌, ◌^◌, ◌<◌, length};
 ghost use Rattle.fields.specs.Bytes.{piece};
-ghost use Rattle.fields.specs.Element.{field_number, form, high as high_of, low as low_of, span as SpanOf, spanned, star?, value_of, written};
+ghost use Rattle.fields.specs.Element.{field_number, form, high as high_of, low as low_of, span as span_of, spanned, star?, value_of, written};
 
 use crate::bytes::{Part, cut, number};
 use crate::names::{MONTHS, WEEKDAYS, name_number};
@@ -123,7 +123,7 @@ fn value(f: Field, w: &[u8]) -> Option<u8>
 }
 
 fn make_span(from: Option<u8>, to: Option<u8>, step: Option<u8>) -> Option<Span>
-    ensures { result ≡ SpanOf from to step }
+    ensures { result ≡ span_of from to step }
 {
     match (from, to, step) {
         (Some(from), Some(to), Some(step)) => Some(Span { from, to, step }),

@@ -1,6 +1,6 @@
 // The values that a field holds.
 ghost use Rattle.std.specs.Prelude.{◌≡◌, ℕ, ◌<◌, false, ◌||◌, get_or, slice_index_or};
-ghost use Rattle.fields.specs.Values.{standing, takes as TakesOf};
+ghost use Rattle.fields.specs.Values.{standing, takes as takes_of};
 ghost use Rattle.fields.specs.declared.element.Field.TheVariants.{Weekday};
 
 use crate::element::Span;
@@ -13,7 +13,7 @@ pub struct Values {
 
 fn takes(s: Span, v: u8) -> bool
     requires { 0 < s.step }
-    ensures { result ≡ TakesOf s v }
+    ensures { result ≡ takes_of s v }
 {
     s.from <= v && v <= s.to && (v - s.from) % s.step == 0
 }
@@ -36,7 +36,7 @@ impl Values {
     pub(crate) fn add(&mut self, s: Span)
         requires { 0 < s.step }
         ensures { (v : ℕ) → v < 64 →
-            slice_index_or self.new.has v false ≡ (TakesOf s v || slice_index_or self.old.has v false) }
+            slice_index_or self.new.has v false ≡ (takes_of s v || slice_index_or self.old.has v false) }
     {
         for v in 0..64u8 {
             let old = self.has[v as usize];
