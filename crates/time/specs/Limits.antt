@@ -1,5 +1,5 @@
--- The limits of minutes and positions.
-use Rattle.std.specs.Prelude.{ℕ}
+-- The limits of minutes and positions, and which minutes lie within them.
+use Rattle.std.specs.Prelude.{ℕ, Bool, ◌&&◌, nat_le}
 
 -- the first minute for which a zone tells an offset
 abbrev pub first_told : ℕ
@@ -16,3 +16,11 @@ last_minute = 100000000
 -- how many lines a minute has
 abbrev pub lines : ℕ
 lines = 64
+
+-- the minutes of which a zone tells
+abbrev pub told : ℕ → Bool
+told u = nat_le first_told u && nat_le u last_minute
+
+-- the minutes at which a line can be due or an offset change
+abbrev pub served : ℕ → Bool
+served u = nat_le first_minute u && nat_le u last_minute

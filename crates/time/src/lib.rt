@@ -4,8 +4,12 @@
 mod limits;
 mod minute;
 mod position;
+mod served;
+mod told;
 mod walk;
 
 pub use limits::{FIRST_MINUTE, FIRST_TOLD, LAST_MINUTE, LINES};
 pub use minute::Minute;
 pub use position::Position;
+pub use served::Served;
+pub use told::Told;

@@ -1,7 +1,10 @@
 // Whole minutes since 1970-01-01 00:00 UTC.
 ghost use Rattle.std.specs.Prelude.{◌≡◌};
+ghost use Rattle.time.specs.Limits.{served as is_served, told as is_told};
 
-#[derive(Clone, Copy)]
+use crate::limits::{FIRST_MINUTE, FIRST_TOLD, LAST_MINUTE};
+
+#[derive(Clone, Copy, Debug, PartialEq, Eq, PartialOrd, Ord)]
 pub struct Minute(u32);
 
 impl Minute {
@@ -16,5 +19,19 @@ impl Minute {
         ensures { result ≡ self.0 }
     {
         self.0
+    }
+
+    // Does a zone tell of it?
+    pub fn is_told(self) -> bool
+        ensures { result ≡ is_told self.0 }
+    {
+        FIRST_TOLD <= self.0 && self.0 <= LAST_MINUTE
+    }
+
+    // Can a line be due or an offset change at it?
+    pub fn is_served(self) -> bool
+        ensures { result ≡ is_served self.0 }
+    {
+        FIRST_MINUTE <= self.0 && self.0 <= LAST_MINUTE
     }
 }

@@ -4,7 +4,7 @@ ghost use Rattle.time.specs.Limits.{lines};
 
 use crate::minute::Minute;
 
-#[derive(Clone, Copy)]
+#[derive(Clone, Copy, Debug, PartialEq, Eq, PartialOrd, Ord)]
 pub struct Position {
     pub(crate) minute: Minute,
     pub(crate) line: u8,

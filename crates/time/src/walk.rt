@@ -30,13 +30,13 @@ impl Position {
     pub fn rank(self) -> u64
         ensures { result ≡ rank self }
     {
-        self.minute.count() as u64 * LINES as u64 + self.line as u64
+        u64::from(self.minute.count()) * u64::from(LINES) + u64::from(self.line)
     }
 
     pub fn is_before(self, other: Position) -> bool
         ensures { result ≡ nat_lt (rank self) (rank other) }
     {
-        self.rank() < other.rank()
+        self < other
     }
 
     // The next position; none after the last line of the last minute that can be counted.
@@ -49,12 +49,7 @@ impl Position {
                 line: self.line + 1,
             });
         }
-        match self.minute.count().checked_add(1) {
-            Some(next) => Some(Position {
-                minute: Minute::new(next),
-                line: 0,
-            }),
-            None => None,
-        }
+        let next = self.minute.count().checked_add(1)?;
+        Some(Position::start_of(Minute::new(next)))
     }
 }
