@@ -29,6 +29,3 @@ month_go k j y m d e h = rw (e, le-ltb _ _ h, from_month) refl
 pub month_stop : (k y m d : ℕ) → d < month_days y m → from_month k y m d ≡ on y m (d + 1)
 month_stop zero y m d h = refl
 month_stop (suc k) y m d h = rw (lt-ltb _ _ h, from_month) refl
-
-pub month_end : (k y m d : ℕ) → k ≡ 0 → from_month k y m d ≡ on y m (d + 1)
-month_end k y m d e = rw e refl

@@ -1,16 +1,32 @@
 // The Gregorian calendar, by days since 1970-01-01.
 #![tactic(auto)]
 
-ghost use Rattle.std.specs.Prelude.{◌≡◌, ◌<◌};
+ghost use Rattle.std.specs.Prelude.{◌≡◌, ◌<◌, Some};
 ghost use Rattle.calendar.specs.Calendar.{date, DaysFollow, from_month, leap, month_days, weekday, year_days};
+ghost use Rattle.calendar.specs.Text.{date_text};
 
-#[derive(Clone, Copy)]
+use std::fmt;
+
+// How many minutes a day has.
+pub const MINUTES_A_DAY: u32 = 1_440;
+
+#[derive(Clone, Copy, Debug, PartialEq, Eq, PartialOrd, Ord)]
 pub struct Date {
     pub year: u32,
     // from 1
     pub month: u32,
     // from 1
     pub day: u32,
+}
+
+// The text `YYYY-MM-DD`.
+impl fmt::Display for Date {
+    ghost output = { λ d. Some (date_text d) };
+
+    fn fmt<W: fmt::Write>(&self, f: &mut fmt::Formatter<W>) -> fmt::Result {
+        let Date { year, month, day } = *self;
+        write!(f, "{year:04}-{month:02}-{day:02}")
+    }
 }
 
 // A year, and how many days of it have passed.
@@ -47,6 +63,7 @@ fn year_of(n: u32) -> Passed
     ensures same { from_month 11 result.year 1 result.days ≡ date n }
     ensures bound { result.days < 366 }
 {
+    // A while: a range needs a last year, and none is known.
     let mut year = 1970;
     let mut days = n;
     'years: while days >= days_in_year(year) {
@@ -61,15 +78,22 @@ fn month_of(p: Passed) -> Date
     requires { p.days < 366 }
     ensures { result ≡ from_month 11 p.year 1 p.days }
 {
-    let mut month = 1;
+    let year = p.year;
     let mut days = p.days;
-    'months: while month < 12 && days >= days_in_month(p.year, month) {
-        days -= days_in_month(p.year, month);
-        month += 1;
+    for month in 1..12 {
+        let length = days_in_month(year, month);
+        if days < length {
+            return Date {
+                year,
+                month,
+                day: days + 1,
+            };
+        }
+        days -= length;
     }
     Date {
-        year: p.year,
-        month,
+        year,
+        month: 12,
         day: days + 1,
     }
 }
@@ -90,8 +114,6 @@ pub fn weekday_of(n: u32) -> u32
 }
 
 // Counting gives the dates one after the other, as a calendar has them.
-pub fn days_follow_each_other() -> u8
+pub fn days_follow_each_other()
     ensures { DaysFollow }
-{
-    0
-}
+{}
