@@ -1,6 +1,6 @@
 -- Labels that a minute is the first to reach, one by one.
 use Rattle.std.proofs.Common.{◌≡◌, ℕ, zero, suc, ◌+◌, ◌-◌, ◌<◌, ◌≤◌, Bool, true, false, ℤ, sym, refl, ap, ◌∙◌, subst, arith, lit<}
-use native.Mathlib.Decide.{ℕ_discrete}
+use Rattle.std.proofs.Math.Decide.{ℕ_discrete}
 use Rattle.std.proofs.lemmas.Bool.{both_ways}
 use Rattle.zone.specs.Limits.{look_back}
 use Rattle.zone.specs.Offsets.{label, highest, reached}

@@ -1,7 +1,7 @@
 -- The greatest label of the minutes before u.
-use Rattle.std.proofs.Common.{◌≡◌, ℕ, zero, suc, ◌+◌, ◌-◌, ◌<◌, ◌≤◌, max, ℤ, pos, negsuc, sym, ap, ◌∙◌, subst, ap₂, add-one, arith, lit<}
-use native.Mathlib.Decide.{ℕ_discrete}
-use lib.IntN.{ℤ_discrete}
+use Rattle.std.proofs.Common.{◌≡◌, ℕ, zero, suc, ◌+◌, ◌-◌, ◌<◌, ◌≤◌, max, ℤ, pos, negsuc, sym, ap, ◌∙◌, subst, arith, lit<}
+use Rattle.std.proofs.Math.Decide.{ℕ_discrete}
+use Rattle.std.proofs.Math.IntN.{ℤ_discrete}
 use Rattle.time.specs.Limits.{first_told, first_minute, last_minute}
 use Rattle.zone.specs.Limits.{least_apart, look_back}
 use Rattle.zone.specs.Offsets.{shifted, label, Changes, Law, highest, reached}
@@ -131,16 +131,7 @@ module _ (off : ℕ → ℤ) (law : Law off) where
       let level = level_between (u - look_back) u (omega arith) (omega arith) b e in
       hi_level off look_back u (lit< tt) (omega arith) (λ x y z. level x y (omega arith))
 
--- one minute more, m with the label a, and all of them
-pub hi_more :
-    (off : ℕ → ℤ) (k u m a top r : ℕ) →
-    r ≡ max a top →
-    a ≡ label off m →
-    m ≡ u - (k + 1) →
-    top ≡ highest off k u →
-    r ≡ highest off (k + 1) u
-hi_more off k u m a top r e x y z = rw add-one (e ∙ ap₂ max (x ∙ ap (label off) (rw add-one at y)) z)
-
+-- all of them
 pub hi_done : (off : ℕ → ℤ) (k u top : ℕ) → top ≡ highest off k u → k ≡ look_back → top ≡ reached off u
 unfolding reached
 hi_done off k u top e q = e ∙ ap (λ (n : ℕ). highest off n u) q

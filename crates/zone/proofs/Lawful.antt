@@ -1,8 +1,8 @@
 -- The offsets of a table without fault obey the law, and change at the minute of each entry.
 use Rattle.std.proofs.Common.{◌≡◌, ℕ, ◌+◌, ◌-◌, ◌<◌, ◌≤◌, List, [], ◌∷◌, ℤ, pos, ◌-ℤ◌, nat_abs, Some, None, Option, sym, refl, ◌∙◌, subst, arith, le-leb}
-use native.Mathlib.Decide.{dec_le}
-use mathlib.Core.Path.{fun_ext}
-use borrow.Author.Tests.{lt-leb}
+use Rattle.std.proofs.Math.Decide.{dec_le}
+use Rattle.std.proofs.Math.Path.{fun_ext}
+use Rattle.std.proofs.lemmas.Bool.{lt-leb}
 use Rattle.std.proofs.lemmas.Int.{ints}
 use Rattle.zone.specs.declared.entry.Entry.{Entry}
 use Rattle.zone.specs.Limits.{most_offset, most_change, least_apart}

@@ -1,6 +1,9 @@
 -- In a table without fault the place of u tells the offset in force and the next change.
-use Rattle.std.proofs.Common.{◌≡◌, ℕ, zero, suc, ◌-◌, ◌<◌, ◌≤◌, List, [], ◌∷◌, length, get_or, ◌-ℤ◌, nat_abs, Some, None, Option, sym, refl, ◌∙◌, sub-one, arith}
+use Rattle.std.proofs.Common.{◌≡◌, ℕ, zero, suc, ◌-◌, ◌<◌, ◌≤◌, true, false, leb, leb-true, leb-false, List, [], ◌∷◌, length, get_or, take, ap, ◌-ℤ◌, nat_abs, Some, None, Option, sym, refl, ◌∙◌, sub-one, arith}
 use Rattle.std.proofs.lemmas.Int.{ints}
+use Rattle.std.proofs.lemmas.List.{get_or-take, length-take-le}
+use Rattle.std.proofs.lemmas.List.Sorted.{IsNonDecreasingBy-from_default, IsPartitionedBy-leb}
+use Rattle.std.specs.List.Sorted.{IsNonDecreasingBy, IsPartitionedBy, IsPartitionPoint}
 use Rattle.zone.specs.declared.entry.Entry.{Entry}
 use Rattle.zone.specs.Offsets.{NextChange}
 use Rattle.zone.specs.Table.{blank, in_force, table_offset, Parts}
@@ -16,6 +19,44 @@ pub ascends :
 ascends e es zero c h = omega arith
 ascends e [] (suc k) c h = absurd (omega arith)
 ascends e (x ∷ es) (suc k) c h = let a = c.0.apart in let r = ascends x es k c.1 (omega arith) in omega arith
+
+rising :
+    (e : Entry) (es : List Entry) (i j : ℕ) →
+    Chain e es →
+    i ≤ j →
+    j ≤ length es →
+    (get_or (e ∷ es) i blank).minute.0 ≤ (get_or (e ∷ es) j blank).minute.0
+rising e es zero j c h k = ascends e es j c k
+rising e es (suc i) zero c h k = absurd (omega arith)
+rising e [] (suc i) (suc j) c h k = absurd (omega arith)
+rising e (x ∷ es) (suc i) (suc j) c h k = rising x es i j c.1 (omega arith) (omega arith)
+
+abbrev minute_of : Entry → ℕ
+minute_of e = e.minute.0
+
+in_order : (es : List Entry) → Good es → IsNonDecreasingBy minute_of es
+in_order es g = IsNonDecreasingBy-from_default minute_of es blank (go es g)
+  where
+    go : (xs : List Entry) → Good xs → (i j : ℕ) → i ≤ j → j < length xs
+        → minute_of (get_or xs i blank) ≤ minute_of (get_or xs j blank)
+    go [] w i j h k = absurd (omega arith)
+    go (x ∷ xs) w i j h k = rising x xs i j w.2 h (omega arith)
+
+-- the place at which `partition_point` parts the entries
+pub parted :
+    (es : List Entry) (u r : ℕ) →
+    r ≤ length es →
+    (IsPartitionedBy (λ e. leb (minute_of e) u) es →
+    IsPartitionPoint (λ e. leb (minute_of e) u ≡ true) (λ e. leb (minute_of e) u ≡ false) es r) →
+    Good es →
+    Parts es u r
+parted es u r within point g =
+    let p = point (IsPartitionedBy-leb minute_of es u (in_order es g)) in
+    record {
+      within = within;
+      before = λ h. leb-true _ _ (p.0 (r - 1) blank (omega arith) (omega arith));
+      after = λ h. leb-false _ _ (p.1 r blank (omega arith) h);
+    }
 
 -- the same place, without the first entry
 rest : (e : Entry) (es : List Entry) (u k : ℕ) → Parts (e ∷ es) u (suc k) → Parts es u k
@@ -96,6 +137,20 @@ offset_of [] u r g s h = absurd (let w = s.within in omega arith)
 offset_of (e ∷ es) u zero g s h = absurd (omega arith)
 offset_of (e ∷ es) u (suc k) g s h =
     rw sub-one (first e es u g.0 ∙ offset_there e es u k g.2 (rest e es u k s))
+
+-- by the last entry that holds by u
+pub offset_at_last :
+    (es : List Entry) (u r : ℕ) (e : Entry) →
+    Good es →
+    Parts es u r →
+    0 < length (take r es) →
+    e ≡ get_or (take r es) (length (take r es) - 1) blank →
+    e.offset ≡ table_offset es u
+offset_at_last es u r e g s some is =
+    let long = length-take-le r es s.within in
+    let last : e ≡ get_or es (r - 1) blank =
+    is ∙ ap (λ n. get_or (take r es) (n - 1) blank) long ∙ get_or-take r es (r - 1) blank (omega (arith, long)) in
+    ap (λ (x : Entry). x.offset) last ∙ sym (offset_of es u r g s (omega (arith, long)))
 
 pub next_of :
     (es : List Entry) (u r : ℕ) →

@@ -6,7 +6,8 @@ use Rattle.zone.specs.declared.label.Label.{Label}
 use Rattle.zone.specs.declared.refusal.Refusal.{Refusal}
 use Rattle.zone.specs.declared.refusal.Refusal.TheVariants.{OutOfRange}
 use Rattle.zone.specs.declared.window.Window.{Window}
-use Rattle.zone.specs.Offsets.{told, served, label, reached, NextChange}
+use Rattle.time.specs.Limits.{told, served}
+use Rattle.zone.specs.Offsets.{label, reached, NextChange}
 
 abbrev pub offset_answer : (ℕ → ℤ) → Minute → Result ℤ Refusal
 offset_answer off u = cond (told u.0) (Ok (off u.0)) (Err (OutOfRange u))

@@ -1,15 +1,7 @@
 -- Zones: an offset for each minute, the next change, and the law that every zone owes.
-use Rattle.std.specs.Prelude.{◌≡◌, ℕ, zero, suc, ◌+◌, ◌-◌, ◌<◌, ◌≤◌, max, Bool, ◌&&◌, ℤ, pos, negsuc, ◌-ℤ◌, Some, None, Option, nat_le, unsigned_abs}
-use Rattle.time.specs.Limits.{first_told, first_minute, last_minute}
+use Rattle.std.specs.Prelude.{◌≡◌, ℕ, zero, suc, ◌+◌, ◌-◌, ◌<◌, ◌≤◌, max, ℤ, pos, negsuc, ◌-ℤ◌, Some, None, Option, unsigned_abs}
+use Rattle.time.specs.Limits.{first_told, last_minute}
 use Rattle.zone.specs.Limits.{most_offset, most_change, least_apart, look_back}
-
--- the minutes of which a zone tells
-abbrev pub told : ℕ → Bool
-told u = nat_le first_told u && nat_le u last_minute
-
--- the minutes at which a line can be due or an offset change
-abbrev pub served : ℕ → Bool
-served u = nat_le first_minute u && nat_le u last_minute
 
 -- minute u, moved by an offset
 abbrev pub shifted : ℕ → ℤ → ℕ

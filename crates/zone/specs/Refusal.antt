@@ -1,5 +1,5 @@
 -- The number by which each case is refused, and what stands beside it.
-use Rattle.zone.specs.declared.refusal.Code.{Code}
+use Rattle.refusal_code.specs.declared.Code.{Code}
 use Rattle.zone.specs.declared.refusal.Refusal.{Refusal}
 use Rattle.zone.specs.declared.refusal.Refusal.TheVariants.{BadTable, BadJoin, OutOfRange}
 

@@ -2,7 +2,7 @@
 use Rattle.std.specs.Prelude.{ℕ, suc, ◌+◌, ◌-◌, ◌<◌, ◌≤◌, Bool, true, false, cond, not, ◌&&◌, List, [], ◌∷◌, length, ℤ, pos, ◌-ℤ◌, is_some, Some, None, Option, ◌==◌, nat_le, nat_lt, slice_index_or, unsigned_abs}
 use Rattle.zone.specs.declared.entry.Entry.{Entry}
 use Rattle.zone.specs.Limits.{most_offset, most_change, least_apart, most_entries}
-use Rattle.zone.specs.Offsets.{served}
+use Rattle.time.specs.Limits.{served}
 
 -- the offset in force at u: o, unless an entry of the list holds by then
 abbrev pub in_force : ℤ → List Entry → ℕ → ℤ

@@ -1,7 +1,7 @@
 // Local time, in minutes: what the clock of a place shows.
 ghost use Rattle.std.specs.Prelude.{◌≡◌, ◌-◌};
 
-#[derive(Clone, Copy)]
+#[derive(Clone, Copy, Debug, PartialEq, Eq, PartialOrd, Ord)]
 pub struct Label(u32);
 
 impl Label {

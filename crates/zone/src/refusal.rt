@@ -2,9 +2,10 @@
 ghost use Rattle.std.specs.Prelude.{◌≡◌};
 ghost use Rattle.zone.specs.Refusal.{code_of};
 
+use refusal_code::Code;
 use time::Minute;
 
-#[derive(Clone, Copy)]
+#[derive(Clone, Copy, Debug, PartialEq, Eq)]
 pub enum Refusal {
     // a table, by the index of its first bad entry
     BadTable(usize),
@@ -12,13 +13,6 @@ pub enum Refusal {
     BadJoin(Minute),
     // a question about a minute of which a zone tells nothing
     OutOfRange(Minute),
-}
-
-// The number of a refusal, and what stands beside it.
-#[derive(Clone, Copy)]
-pub struct Code {
-    pub number: u8,
-    pub beside: usize,
 }
 
 impl Refusal {

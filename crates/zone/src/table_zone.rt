@@ -4,7 +4,7 @@ ghost use Rattle.zone.specs.Table.{sound as is_sound};
 
 use crate::entry::Entry;
 
-#[derive(Clone, Copy)]
+#[derive(Clone, Copy, Debug, PartialEq, Eq)]
 pub struct TableZone<'a> {
     pub(crate) entries: &'a [Entry],
     ghost sound: { is_sound entries.now ≡ true },

@@ -1,48 +1,62 @@
 // The minutes of which a zone tells, and their labels.
-ghost use Rattle.std.specs.Prelude.{◌≡◌, true};
+ghost use Rattle.std.specs.Prelude.{◌≡◌, MatchResult, false};
+ghost use Rattle.std.specs.Option.{option_map};
+ghost use Rattle.time.specs.Limits.{served as is_served, told as is_told};
 ghost use Rattle.zone.specs.Answers.{label_answer};
-ghost use Rattle.zone.specs.Offsets.{label as label_of, served, told};
+ghost use Rattle.zone.specs.Offsets.{label as label_of, NextChange};
+ghost use Rattle.zone.specs.declared.refusal.Refusal.TheVariants.{OutOfRange};
 
 use crate::label::Label;
 use crate::refusal::Refusal;
 use crate::zone::Zone;
-use time::{FIRST_MINUTE, FIRST_TOLD, LAST_MINUTE, Minute};
+use time::{Minute, Served, Told};
 
 // Does a zone tell of minute `u`?
 pub fn is_told(u: Minute) -> bool
-    ensures { result ≡ told u.0 }
+    ensures { result ≡ is_told u.0 }
 {
-    u.count() >= FIRST_TOLD && u.count() <= LAST_MINUTE
+    u.is_told()
 }
 
-// Can a line be due or an offset change at minute `u`?
-pub(crate) fn is_served(u: Minute) -> bool
-    ensures { result ≡ served u.0 }
+// Minute `u`, where zones tell of it.
+pub fn told_at(u: Minute) -> Result<Told, Refusal>
+    ensures { MatchResult result (λ t. t.minute ≡ u) (λ e. (is_told u.0 ≡ false) × (e ≡ OutOfRange u)) }
 {
-    u.count() >= FIRST_MINUTE && u.count() <= LAST_MINUTE
+    Told::new(u).ok_or(Refusal::OutOfRange(u))
+}
+
+// Minute `u`, where a line can be due at it.
+pub fn served_at(u: Minute) -> Result<Served, Refusal>
+    ensures { MatchResult result (λ s. s.minute ≡ u) (λ e. (is_served u.0 ≡ false) × (e ≡ OutOfRange u)) }
+{
+    Served::new(u).ok_or(Refusal::OutOfRange(u))
 }
 
 // The offset at a minute of which the zone tells.
-pub(crate) fn offset_in<Z: Zone>(z: &Z, u: Minute) -> i32
-    requires { told u.0 ≡ true }
-    ensures { result ≡ Z.offsets z.now u.0 }
+pub fn offset_in<Z: Zone>(z: &Z, u: Told) -> i32
+    ensures { result ≡ Z.offsets z.now u.minute.0 }
 {
-    match z.offset_at(u) {
-        Ok(offset) => offset,
-        Err(_) => unreachable(),
-    }
+    z.offset_at(u.minute()).unwrap()
+}
+
+// The next change after a minute of which the zone tells.
+pub fn change_after<Z: Zone>(z: &Z, u: Told) -> Option<Minute>
+    ensures { NextChange (Z.offsets z.now) u.minute.0 (option_map (λ m. m.0) result) }
+{
+    z.next_change(u.minute()).unwrap()
 }
 
 // The label of a minute of which the zone tells.
-pub(crate) fn label_in<Z: Zone>(z: &Z, u: Minute) -> Label
-    requires { told u.0 ≡ true }
-    ensures { result.0 ≡ label_of (Z.offsets z.now) u.0 }
+pub fn label_in<Z: Zone>(z: &Z, u: Told) -> Label
+    ensures { result.0 ≡ label_of (Z.offsets z.now) u.minute.0 }
 {
     z.lawful();
-    match z.offset_at(u) {
-        Ok(offset) if offset < 0 => Label::new(u.count() - offset.unsigned_abs()),
-        Ok(offset) => Label::new(u.count() + offset.unsigned_abs()),
-        Err(_) => unreachable(),
+    let count = u.minute().count();
+    let offset = offset_in(z, u);
+    if offset < 0 {
+        Label::new(count - offset.unsigned_abs())
+    } else {
+        Label::new(count + offset.unsigned_abs())
     }
 }
 
@@ -50,8 +64,5 @@ pub(crate) fn label_in<Z: Zone>(z: &Z, u: Minute) -> Label
 pub fn label_at<Z: Zone>(z: &Z, u: Minute) -> Result<Label, Refusal>
     ensures { result ≡ label_answer (Z.offsets z.now) u }
 {
-    if is_told(u) {
-        return Ok(label_in(z, u));
-    }
-    Err(Refusal::OutOfRange(u))
+    Ok(label_in(z, told_at(u)?))
 }

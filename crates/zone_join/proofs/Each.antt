@@ -1,6 +1,6 @@
 -- The law as a test of each minute tells the law as it reads.
 use Rattle.std.proofs.Common.{◌≡◌, ℕ, zero, suc, ◌+◌, ◌-◌, ◌<◌, ◌≤◌, Bool, true, false, ltb, leb, ℤ, nat_abs, Decides, sym, refl, ap, ◌∙◌, arith, ltb-false, ltb-true, le-leb, leb-false, leb-true}
-use native.Mathlib.Decide.{dec_le, ℕ_discrete}
+use Rattle.std.proofs.Math.Decide.{dec_le, ℕ_discrete}
 use Rattle.std.proofs.lemmas.Int.{ints}
 use Rattle.time.specs.Limits.{first_told, last_minute}
 use Rattle.zone.specs.Limits.{most_offset, most_change, least_apart}

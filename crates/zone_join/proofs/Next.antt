@@ -1,6 +1,6 @@
 -- The next change of a join.
 use Rattle.std.proofs.Common.{◌≡◌, ℕ, ◌-◌, ◌<◌, ◌≤◌, ℤ, ◌-ℤ◌, nat_abs, Some, None, Option, subst, arith}
-use native.Mathlib.Decide.{dec_le}
+use Rattle.std.proofs.Math.Decide.{dec_le}
 use Rattle.std.proofs.lemmas.Int.{ints}
 use Rattle.time.specs.Limits.{last_minute}
 use Rattle.zone.specs.Offsets.{NextChange}

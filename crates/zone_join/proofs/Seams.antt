@@ -1,7 +1,7 @@
 -- Two zones joined at t: when the law holds.
 use Rattle.std.proofs.Common.{◌≡◌, ℕ, ◌+◌, ◌-◌, ◌<◌, ◌≤◌, Bool, true, false, cond, ◌&&◌, ◌||◌, eqb, ltb, leb, ℤ, ◌-ℤ◌, nat_abs, Some, None, Option, refl, subst, arith, ltb-false, ltb-true, eq-eqb, eqb-true, le-leb, leb-true}
-use native.Mathlib.Decide.{dec_le, dec_lt, ℕ_discrete}
-use lib.IntN.{ℤ_discrete}
+use Rattle.std.proofs.Math.Decide.{dec_le, dec_lt, ℕ_discrete}
+use Rattle.std.proofs.Math.IntN.{ℤ_discrete}
 use borrow.Author.Tests.{eqb-false}
 use Rattle.std.proofs.lemmas.Int.{ints}
 use Rattle.time.specs.Limits.{first_told, last_minute}
