@@ -1,0 +1,13 @@
+// Cases of an independent model: lines `QUESTION -> ANSWER`, and how a program's answers differ from those that stand
+// there.
+#![tactic(auto)]
+
+mod program;
+mod tally;
+#[cfg(test)]
+mod tests;
+mod text;
+
+pub use program::{Program, judge};
+pub use tally::Tally;
+pub use text::{malformed, parsed, parted};

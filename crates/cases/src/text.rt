@@ -1,0 +1,37 @@
+// The parts of a case.
+ghost use Rattle.std.specs.Prelude.{◌≡◌, ◌++◌, IfOk, Ok};
+ghost use Rattle.std.specs.declared.io.ErrorKind.TheVariants.{InvalidData};
+ghost use Rattle.std.specs.IoError.{error_kind};
+
+use std::io;
+use std::str::FromStr;
+
+// A case that is not written as it has to be.
+pub fn malformed(form: &str) -> io::Error
+    ensures { error_kind result ≡ InvalidData }
+{
+    io::Error::new(io::ErrorKind::InvalidData, form)
+}
+
+fn unreadable() -> io::Error {
+    malformed("a case is not written as it should be")
+}
+
+// What stands before and after the first `mark`.
+pub fn parted<'a>(text: &'a str, mark: &str) -> io::Result<(&'a str, &'a str)>
+    ensures { IfOk result (λ p. text.now ≡ p.0.now ++ mark.now ++ p.1.now) }
+{
+    match text.split_once(mark) {
+        Some(parts) => Ok(parts),
+        None => Err(unreadable()),
+    }
+}
+
+// A number of a case.
+pub fn parsed<T: FromStr>(text: &str) -> io::Result<T>
+where
+    <T as FromStr>::Err: Drop,
+    ensures { IfOk result (λ x. T.from_str_gives text.now (Ok x)) }
+{
+    text.parse::<T>().map_err(|_| unreadable())
+}
