@@ -1,8 +1,8 @@
 // A refusal, as text.
 use crontab::{Code, Place, Refusal};
 use fields::{Fault, Field};
-use std::io;
 use std::io::Write;
+use std::{fmt, io};
 
 fn name(f: Field) -> &'static str {
     match f {
@@ -74,32 +74,32 @@ fn write_reason(out: &mut Vec<u8>, refusal: Refusal) -> io::Result<()> {
     writeln!(out, "{reason}")
 }
 
-fn write_code(out: &mut Vec<u8>, code: Code) -> io::Result<()> {
-    let number = code.number;
-    write!(out, "refused {number}")?;
-    if let Some(Place { line, column }) = code.place {
-        write!(out, " line {line} column {column}")?;
+// The number of a refusal, and the place that is refused.
+#[derive(Drop)]
+struct Heading(Code);
+
+impl fmt::Display for Heading {
+    fn fmt<W: fmt::Write>(&self, f: &mut fmt::Formatter<W>) -> fmt::Result {
+        let Code {
+            number,
+            place,
+            field,
+        } = self.0;
+        write!(f, "refused {number}")?;
+        if let Some(Place { line, column }) = place {
+            write!(f, " line {line} column {column}")?;
+        }
+        if let Some(field) = field {
+            write!(f, " field {field}")?;
+        }
+        Ok(())
     }
-    if let Some(field) = code.field {
-        write!(out, " field {field}")?;
-    }
-    out.write_all(b"\n")
 }
 
 // Line `n` of the file, counted from 1.
 fn line_of(file: &[u8], n: usize) -> &[u8] {
-    let mut line = 1usize;
-    let mut start = 0;
-    for (i, b) in file.iter().enumerate() {
-        if *b == b'\n' {
-            if line == n {
-                return &file[start..i];
-            }
-            line = line.saturating_add(1);
-            start = i + 1;
-        }
-    }
-    &file[start..]
+    let mut lines = file.split(|b| *b == b'\n');
+    lines.nth(n.saturating_sub(1)).unwrap_or(b"")
 }
 
 // The line with a caret under the column.
@@ -119,7 +119,8 @@ fn write_place(out: &mut Vec<u8>, line: &[u8], column: usize) -> io::Result<()> 
 // The refusal by its number, the place that is refused, and what is wrong there.
 pub(crate) fn write_refusal(out: &mut Vec<u8>, file: &[u8], refusal: Refusal) -> io::Result<()> {
     if let Some(code) = refusal.code() {
-        write_code(out, code)?;
+        let heading = Heading(code);
+        writeln!(out, "{heading}")?;
         if let Some(Place { line, column }) = code.place {
             write_place(out, line_of(file, line), column)?;
         }

@@ -1,28 +1,15 @@
 // A crontab that was taken, as text.
-use crate::runs::{Run, next_run};
+use crate::runs::Runs;
 use crontab::{Crontab, Job};
 use fields::FieldSet;
 use std::io;
 use std::io::Write;
 
-fn write_run(out: &mut Vec<u8>, run: Run) -> io::Result<()> {
-    let Run { first, last } = run;
-    if first == last {
-        write!(out, "{first}")
-    } else {
-        write!(out, "{first}-{last}")
-    }
-}
-
 fn write_field(out: &mut Vec<u8>, label: &str, field: &FieldSet) -> io::Result<()> {
     write!(out, "  {label:<7} ")?;
-    let mut from = 0;
-    while let Some(run) = next_run(&field.values, from) {
-        if from > 0 {
-            out.write_all(b",")?;
-        }
-        write_run(out, run)?;
-        from = run.last + 1;
+    for (k, run) in Runs::of(&field.values).enumerate() {
+        let comma = if k > 0 { "," } else { "" };
+        write!(out, "{comma}{run}")?;
     }
     out.write_all(if field.starred { b" (*)\n" } else { b"\n" })
 }

@@ -1,14 +1,27 @@
 // The values of a field as runs of numbers that follow one another.
-ghost use Rattle.std.specs.Prelude.{◌≡◌, ◌<◌, ◌≤◌, true, false, MatchOption};
+ghost use Rattle.std.specs.Prelude.{◌≡◌, ◌-◌, ◌<◌, ◌≤◌, true, false, MatchOption};
+ghost use Rattle.std.specs.Iterator.{at_most};
 ghost use Rattle.check_crontab.specs.Runs.{NextRun, held, same};
 
 use fields::Values;
+use std::fmt;
 
 // The numbers from `first` to `last`, both among them.
 #[derive(Clone, Copy)]
 pub(crate) struct Run {
     pub(crate) first: u32,
     pub(crate) last: u32,
+}
+
+impl fmt::Display for Run {
+    fn fmt<W: fmt::Write>(&self, f: &mut fmt::Formatter<W>) -> fmt::Result {
+        let Run { first, last } = *self;
+        if first == last {
+            write!(f, "{first}")
+        } else {
+            write!(f, "{first}-{last}")
+        }
+    }
 }
 
 // The first of the values from `from` on.
@@ -19,12 +32,7 @@ fn first_held(values: &Values, from: u32) -> Option<u32>
         × same false values.now from v
         × (held values.now v ≡ true)) }
 {
-    for v in from..64 {
-        if values.contains(v) {
-            return Some(v);
-        }
-    }
-    None
+    (from..64).find(|v| values.contains(*v))
 }
 
 // The first number from `from` on that is none of the values. They come by value: only of a value of its own does the
@@ -35,12 +43,7 @@ fn first_free(values: Values, from: u32) -> u32
     ensures before { same true values from result }
     ensures free { held values result ≡ false }
 {
-    for v in from..64 {
-        if !values.contains(v) {
-            return v;
-        }
-    }
-    64
+    (from..64).find(|v| !values.contains(*v)).unwrap_or(64)
 }
 
 // The longest run that begins with the first of the values from `from` on.
@@ -50,4 +53,29 @@ pub(crate) fn next_run(values: &Values, from: u32) -> Option<Run>
     let first = first_held(values, from)?;
     let last = first_free(*values, first + 1) - 1;
     Some(Run { first, last })
+}
+
+// The runs of the values, from `from` on.
+#[derive(Drop)]
+pub(crate) struct Runs<'a> {
+    values: &'a Values,
+    from: u32,
+}
+
+impl<'a> Runs<'a> {
+    pub(crate) fn of(values: &'a Values) -> Runs<'a> {
+        Runs { values, from: 0 }
+    }
+}
+
+impl<'a> Iterator for Runs<'a> {
+    type Item = Run;
+
+    ghost remaining = { λ s. at_most (64 - s.from) };
+
+    fn next(&mut self) -> Option<Run> {
+        let run = next_run(self.values, self.from)?;
+        self.from = run.last + 1;
+        Some(run)
+    }
 }

@@ -1,7 +1,8 @@
-use crate::judge;
+use crate::CheckCrontab;
 use std::alloc::Global;
 use std::process::Abort;
 use std::test::Fail;
+use tool::{Program, Stop};
 
 const REFUSED: [(&[u8], &[u8]); 8] = [
     (
@@ -49,9 +50,11 @@ const REFUSED: [(&[u8], &[u8]); 8] = [
 ];
 
 fn expect_refused(rt: &impl Abort, heap: Global, file: &[u8], text: &[u8]) -> Result<(), Fail> {
-    let answer = judge(heap, file)?;
-    assert!(rt; !answer.taken);
-    assert_eq!(rt; answer.text.as_slice(), text);
+    match CheckCrontab.judge(heap, file) {
+        Err(Stop::Refused(printed)) => assert_eq!(rt; printed.as_slice(), text),
+        Err(_other) => assert!(rt; false, "the program failed"),
+        Ok(_text) => assert!(rt; false, "the file is taken"),
+    }
     Ok(())
 }
 
@@ -97,14 +100,16 @@ fn says_what_is_too_much(rt: HostRuntime) -> Result<(), Fail> {
 
 #[test]
 fn lists_the_jobs(rt: HostRuntime) -> Result<(), Fail> {
-    let answer = judge(
+    let judged = CheckCrontab.judge(
         rt.alloc(),
         b"# a byte that is no text\n30 7 *,9 2-4/2 6,7 echo \xff\n",
-    )?;
-    assert!(rt; answer.taken);
+    );
     let text =
         b"job 0 line 2\n  minute  30\n  hour    7\n  day     1-31 (*)\n  month   2,4\n  weekday 0,6\n\
         \x20 command echo \xff\ntaken 1\n";
-    assert_eq!(rt; answer.text.as_slice(), text.as_slice());
+    match judged {
+        Ok(printed) => assert_eq!(rt; printed.as_slice(), text.as_slice()),
+        Err(_stop) => assert!(rt; false, "the file is not taken"),
+    }
     Ok(())
 }

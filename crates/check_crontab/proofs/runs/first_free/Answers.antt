@@ -1,13 +1,14 @@
--- The loop came to 64, which is past the end of the values.
-use Rattle.std.proofs.Common.{◌≡◌, length, arith, rules}
-use Rattle.std.proofs.lemmas.List.{get_or_past}
+use Rattle.std.proofs.Common.{◌≡◌, ◌-◌, true, false, refl, rules}
+use Rattle.std.proofs.lemmas.Iterator.{YieldsList-from_range, first_from_find}
+use Rattle.check_crontab.proofs.Ranges.{first_in_range, none_before}
+use Rattle.check_crontab.specs.Runs.{held}
 use Rattle.check_crontab.proofs.runs.first_free.Goals as goal
 
-pub returns : goal.returns
-returns c =
-    let h : length c.args.values.has ≡ 64 = search rules in
-    record {
-      within = (omega arith, omega arith);
-      before = λ k low high. c.loop-v.invariant k low (omega arith);
-      free = get_or_past c.args.values.has 64 _ (omega arith);
-    }
+pub returns-clause-before : goal.returns-clause-before
+returns-clause-before c =
+    let values = c.args.values in
+    rw c.unwrap_or.ensures (none_before (λ v. held values v ≡ false) (λ v. held values v ≡ true) c.args.from 64 _
+    (first_in_range (λ v. held values v ≡ false) (λ v. held values v ≡ true) c.args.from 64 _
+    (first_from_find _ _ _ (λ v. held values v ≡ false) (λ v. held values v ≡ true) c.find.ensures.ran
+    (YieldsList-from_range c.args.from 64 (64 - c.args.from) refl refl)
+    (λ x q k. search rules) (λ x q k. search rules))))
