@@ -1,5 +1,6 @@
 // The parts of a case.
-ghost use Rattle.std.specs.Prelude.{◌≡◌, ◌++◌, IfOk, Ok};
+ghost use Rattle.std.specs.Prelude.{◌≡◌, ◌++◌, IfOk, MatchOption, Ok, false, true};
+ghost use Rattle.cases.specs.Digits.{has_capital};
 ghost use Rattle.std.specs.declared.io.ErrorKind.TheVariants.{InvalidData};
 ghost use Rattle.std.specs.IoError.{error_kind};
 
@@ -34,4 +35,24 @@ where
     ensures { IfOk result (λ x. T.from_str_gives text.now (Ok x)) }
 {
     text.parse::<T>().map_err(|_| unreadable())
+}
+
+// Does a letter from A to Z stand in it?
+fn has_capital(text: &[u8]) -> bool
+    ensures { result ≡ has_capital text.now }
+{
+    text.iter().any(|b| b.is_ascii_uppercase())
+}
+
+// Digits in which no capital letter stands: the library that reads hexadecimal would take them.
+pub fn without_capitals(digits: &str) -> Option<&str>
+    ensures { MatchOption result
+        (has_capital digits.now ≡ true)
+        (λ d. (d.now ≡ digits.now) × (has_capital digits.now ≡ false)) }
+{
+    if has_capital(digits.as_bytes()) {
+        None
+    } else {
+        Some(digits)
+    }
 }
