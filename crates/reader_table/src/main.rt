@@ -3,8 +3,8 @@
 #![tactic(auto)]
 
 mod answer;
-mod hex;
 
+use cases::{Program, judge, malformed, without_capitals};
 use std::alloc::Global;
 use std::io;
 use std::io::{Read, Write};
@@ -12,62 +12,52 @@ use std::io::{Read, Write};
 // As much of an answer as is printed.
 const SHOWN: usize = 200;
 
-fn shown(answer: &[u8]) -> &[u8] {
-    answer.get(0..SHOWN).unwrap_or(answer)
-}
+#[derive(Drop)]
+struct Reader;
 
-fn malformed() -> io::Error {
-    io::Error::new(
-        io::ErrorKind::InvalidData,
-        "a case is not written as HEX -> ANSWER",
-    )
-}
-
-// Says how the reader's answer differs from the expected one in case `k`, and whether it does.
-fn compare(out: &mut Vec<u8>, k: usize, expected: &[u8], got: &[u8]) -> io::Result<bool> {
-    if expected == got {
-        return Ok(false);
+impl Program for Reader {
+    fn label(&self) -> &str {
+        ""
     }
-    write!(out, "case {k}: expected ")?;
-    out.write_all(shown(expected))?;
-    out.write_all(b" got ")?;
-    out.write_all(shown(got))?;
-    out.write_all(b"\n")?;
-    Ok(true)
-}
 
-// Does the reader answer otherwise than the case says? `k` is the case's line, counted from 1.
-fn differs(heap: Global, out: &mut Vec<u8>, k: usize, case: &str) -> io::Result<bool> {
-    let Some((digits, expected)) = case.split_once(" -> ") else {
-        return Err(malformed());
-    };
-    let Some(file) = hex::decode(heap, digits.as_bytes())? else {
-        return Err(malformed());
-    };
-    let got = answer::answer_to(heap, file.as_slice())?;
-    compare(out, k, expected.as_bytes(), got.as_slice())
-}
+    fn form(&self) -> &str {
+        "a case is not written as HEX -> ANSWER"
+    }
 
-// What is to be printed of the cases.
-fn judge(heap: Global, cases: &str) -> io::Result<Vec<u8>> {
-    let mut out = Vec::new(heap);
-    let mut count = 0usize;
-    let mut different = 0usize;
-    for case in cases.lines() {
-        count = count.saturating_add(1);
-        if differs(heap, &mut out, count, case)? {
-            different = different.saturating_add(1);
+    fn answer(&self, heap: Global, question: &str) -> io::Result<Vec<u8>> {
+        match file_of(heap, question)? {
+            Some(file) => answer::answer_to(heap, file.as_slice()),
+            None => Err(malformed(self.form())),
         }
     }
-    writeln!(out, "cases {count} differ {different}")?;
-    Ok(out)
+
+    fn shown<'a>(&self, answer: &'a [u8]) -> &'a [u8] {
+        answer.get(0..SHOWN).unwrap_or(answer)
+    }
+}
+
+// The bytes that the digits say, or none if they say no bytes; `-` stands for no byte at all.
+fn file_of(heap: Global, digits: &str) -> io::Result<Option<Vec<u8>>> {
+    if digits == "-" {
+        return Ok(Some(Vec::new(heap)));
+    }
+    let Some(digits) = without_capitals(digits) else {
+        return Ok(None);
+    };
+    match hex::decode(heap, digits) {
+        Ok(file) => Ok(Some(file)),
+        Err(hex::FromHexError::OutOfMemory) => Err(io::Error::from(io::ErrorKind::OutOfMemory)),
+        Err(_) => Ok(None),
+    }
 }
 
 fn run(rt: &HostRuntime) -> io::Result<()> {
     let heap = rt.alloc();
     let mut cases = String::new(heap);
     rt.stdin().read_to_string(&mut cases)?;
-    let out = judge(heap, cases.as_str())?;
+    let mut out = Vec::new(heap);
+    let tally = judge(heap, &mut out, &Reader, cases.as_str())?;
+    writeln!(out, "{tally}")?;
     rt.stdout().write_all(out.as_slice())
 }
 
