@@ -1,49 +1,48 @@
 // The rows: the pages that a restart replays, and what they leave.
-use crate::refusal::Fault;
+use crate::fault::Fault;
 use disk::Disk;
 use journal::{BadPage, Refusal, Restarted, read_page};
 use journal_state::State;
 use page::{CHECKPOINT_EACH, Event, Head, MOST_OPEN};
-use std::io;
+use position_text::AsTicket;
 use std::io::Write;
+use std::{fmt, io};
 use time::{Minute, Position};
 
-fn write_ticket(out: &mut Vec<u8>, ticket: Position) -> io::Result<()> {
-    let line = ticket.line();
-    let minute = ticket.minute().count();
-    write!(out, "{line} {minute}")
-}
+// A page as a row.
+#[derive(Clone, Copy)]
+struct Row(Head);
 
-fn write_page(out: &mut Vec<u8>, head: &Head) -> io::Result<()> {
-    let number = head.number;
-    write!(out, "page {number} ")?;
-    match head.event {
-        Event::Format => out.write_all(b"format")?,
-        Event::Start(ticket) => {
-            out.write_all(b"start ")?;
-            write_ticket(out, ticket)?;
-        }
-        Event::Done(ticket, ending) => {
-            out.write_all(b"done ")?;
-            write_ticket(out, ticket)?;
-            let code = ending.code;
-            write!(out, " {code}")?;
+impl fmt::Display for Row {
+    fn fmt<W: fmt::Write>(&self, f: &mut fmt::Formatter<W>) -> fmt::Result {
+        let number = self.0.number;
+        match self.0.event {
+            Event::Format => write!(f, "page {number} format"),
+            Event::Start(ticket) => {
+                let ticket = AsTicket(ticket);
+                write!(f, "page {number} start {ticket}")
+            }
+            Event::Done(ticket, ending) => {
+                let ticket = AsTicket(ticket);
+                let code = ending.code;
+                write!(f, "page {number} done {ticket} {code}")
+            }
         }
     }
-    out.write_all(b"\n")
 }
 
 // The pages from the last checkpoint at or below the top, up to the top.
 fn write_pages<D: Disk>(out: &mut Vec<u8>, disk: &D, top: u32) -> Result<(), Fault> {
     let mut place = [Position::start_of(Minute::new(0)); MOST_OPEN];
     for page in top - top % CHECKPOINT_EACH..=top {
-        match read_page(disk, page, &mut place) {
-            Ok(head) => write_page(out, &head)?,
-            Err(cause) => {
-                let block = page as usize % disk.block_count();
-                return Err(Refusal::BadPage(BadPage { page, block, cause }).into());
-            }
-        }
+        let block = page as usize % disk.block_count();
+        let head = read_page(disk, page, &mut place).map_err(|cause| Refusal::BadPage(BadPage {
+            page,
+            block,
+            cause,
+        }))?;
+        let row = Row(head);
+        writeln!(out, "{row}")?;
     }
     Ok(())
 }
@@ -53,9 +52,8 @@ fn write_state(out: &mut Vec<u8>, state: &State) -> io::Result<()> {
     let line = state.next.line();
     writeln!(out, "next {minute} {line}")?;
     for ticket in state.tickets.iter() {
-        out.write_all(b"open ")?;
-        write_ticket(out, *ticket)?;
-        out.write_all(b"\n")?;
+        let ticket = AsTicket(*ticket);
+        writeln!(out, "open {ticket}")?;
     }
     Ok(())
 }

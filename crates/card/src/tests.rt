@@ -1,7 +1,8 @@
-use crate::judge;
+use crate::Card;
 use std::alloc::Global;
 use std::process::Abort;
 use std::test::Fail;
+use tool::{Program, Stop};
 
 // An image of 64 blocks. The first of them begin with these bytes, and all else is zero.
 fn image_of(heap: Global, blocks: &[&[u8]]) -> Result<Vec<u8>, Fail> {
@@ -23,9 +24,17 @@ fn expect(
     taken: bool,
     text: &[u8],
 ) -> Result<(), Fail> {
-    let answer = judge(heap, image)?;
-    assert_eq!(rt; answer.taken, taken);
-    assert_eq!(rt; answer.text.as_slice(), text);
+    match Card.judge(heap, image) {
+        Ok(printed) => {
+            assert!(rt; taken);
+            assert_eq!(rt; printed.as_slice(), text);
+        }
+        Err(Stop::Refused(printed)) => {
+            assert!(rt; !taken);
+            assert_eq!(rt; printed.as_slice(), text);
+        }
+        Err(_other) => assert!(rt; false, "the program failed"),
+    }
     Ok(())
 }
 

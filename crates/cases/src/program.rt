@@ -15,8 +15,8 @@ pub trait Program {
     // How a case has to be written.
     fn form(&self) -> &str;
 
-    // What the program answers to the question of a case.
-    fn answer(&self, heap: Global, question: &str) -> io::Result<Vec<u8>>;
+    // Writes what the program answers to the question of a case.
+    fn answer(&self, heap: Global, out: &mut Vec<u8>, question: &str) -> io::Result<()>;
 
     // As much of an answer as the report shows.
     fn shown<'a>(&self, answer: &'a [u8]) -> &'a [u8] {
@@ -51,7 +51,8 @@ fn differs<P: Program>(
     let Some((question, expected)) = case.split_once(" -> ") else {
         return Err(malformed(program.form()));
     };
-    let got = program.answer(heap, question)?;
+    let mut got = Vec::new(heap);
+    program.answer(heap, &mut got, question)?;
     if got.as_slice() == expected.as_bytes() {
         return Ok(false);
     }

@@ -23,13 +23,11 @@ impl Program for Codec {
         "a case is not written as HEX -> ANSWER"
     }
 
-    fn answer(&self, heap: Global, question: &str) -> io::Result<Vec<u8>> {
-        let Some(bytes) = block_of(question) else {
-            return Err(malformed(self.form()));
-        };
-        let mut out = Vec::new(heap);
-        pages::write_page(&mut out, &bytes)?;
-        Ok(out)
+    fn answer(&self, _heap: Global, out: &mut Vec<u8>, question: &str) -> io::Result<()> {
+        match block_of(question) {
+            Some(block) => pages::write_page(out, &block),
+            None => Err(malformed(self.form())),
+        }
     }
 }
 

@@ -51,14 +51,12 @@ fn write_taken(out: &mut Vec<u8>, taken: &Crontab<'_>) -> io::Result<()> {
     Ok(())
 }
 
-pub(crate) fn answer_to(heap: Global, file: &[u8]) -> io::Result<Vec<u8>> {
-    let mut out = Vec::new(heap);
+pub(crate) fn write_answer(heap: Global, out: &mut Vec<u8>, file: &[u8]) -> io::Result<()> {
     match crontab::read(heap, file) {
-        Ok(taken) => write_taken(&mut out, &taken)?,
+        Ok(taken) => write_taken(out, &taken),
         Err(refusal) => match refusal.code() {
-            Some(code) => write!(out, "{code}")?,
-            None => return Err(io::Error::from(io::ErrorKind::OutOfMemory)),
+            Some(code) => write!(out, "{code}"),
+            None => Err(io::Error::from(io::ErrorKind::OutOfMemory)),
         },
     }
-    Ok(out)
 }

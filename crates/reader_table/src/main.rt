@@ -24,9 +24,9 @@ impl Program for Reader {
         "a case is not written as HEX -> ANSWER"
     }
 
-    fn answer(&self, heap: Global, question: &str) -> io::Result<Vec<u8>> {
+    fn answer(&self, heap: Global, out: &mut Vec<u8>, question: &str) -> io::Result<()> {
         match file_of(heap, question)? {
-            Some(file) => answer::answer_to(heap, file.as_slice()),
+            Some(file) => answer::write_answer(heap, out, file.as_slice()),
             None => Err(malformed(self.form())),
         }
     }

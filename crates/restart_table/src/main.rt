@@ -2,46 +2,36 @@
 // A case is a line `COUNT LINES BLOCKS -> ANSWER`.
 #![tactic(auto)]
 
-mod block;
-mod positions;
 mod restarts;
-mod text;
 
+use cases::{Program, judge};
 use std::alloc::Global;
 use std::io::Write;
 use std::{fs, io};
 
-// Says how the answer differs from that of case `k`, counted from 1, and whether it does.
-fn differs(heap: Global, out: &mut Vec<u8>, k: usize, case: &str) -> io::Result<bool> {
-    let (question, expected) = text::parted(case, " -> ")?;
-    let mut got = Vec::new(heap);
-    restarts::write_restart(heap, &mut got, question)?;
-    if got.as_slice() == expected.as_bytes() {
-        return Ok(false);
-    }
-    write!(out, "replay case {k}: expected {expected} got ")?;
-    out.write_all(got.as_slice())?;
-    out.write_all(b"\n")?;
-    Ok(true)
-}
+#[derive(Drop)]
+struct Restarts;
 
-fn judge(heap: Global, cases: &str) -> io::Result<Vec<u8>> {
-    let mut out = Vec::new(heap);
-    let mut count = 0usize;
-    let mut different = 0usize;
-    for case in cases.lines() {
-        count = count.saturating_add(1);
-        if differs(heap, &mut out, count, case)? {
-            different = different.saturating_add(1);
-        }
+impl Program for Restarts {
+    fn label(&self) -> &str {
+        "replay "
     }
-    writeln!(out, "replay cases {count} differ {different}")?;
-    Ok(out)
+
+    fn form(&self) -> &str {
+        "a case is not written as it should be"
+    }
+
+    fn answer(&self, heap: Global, out: &mut Vec<u8>, question: &str) -> io::Result<()> {
+        restarts::write_restart(heap, out, question)
+    }
 }
 
 fn run(rt: &HostRuntime) -> io::Result<()> {
     let cases = fs::read_to_string(rt, "replay.txt")?;
-    let out = judge(rt.alloc(), cases.as_str())?;
+    let heap = rt.alloc();
+    let mut out = Vec::new(heap);
+    let tally = judge(heap, &mut out, &Restarts, cases.as_str())?;
+    writeln!(out, "replay {tally}")?;
     rt.stdout().write_all(out.as_slice())
 }
 

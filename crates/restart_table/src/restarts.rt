@@ -1,21 +1,39 @@
 // Questions about restarts: what is found again of the journal on a disk.
-use crate::block::decode;
-use crate::positions::{write_open, write_position};
-use crate::text;
+use cases::{malformed, parsed, parted, without_capitals};
 use disk::Disk;
 use disks::{Fate, HoldingDisk, Unmade};
-use journal::{Beside, Refusal, Restarted, restart};
+use journal::{Refusal, Restarted, restart};
 use page::PAGE_SIZE;
+use position_text::{AsOpen, AsPosition};
 use std::alloc::Global;
 use std::io;
 use std::io::Write;
 
+fn unwritten() -> io::Error {
+    malformed("a case is not written as it should be")
+}
+
+// The block that begins with the bytes that the digits say, and has zeros after them.
+fn block_of(digits: &str) -> io::Result<[u8; PAGE_SIZE]> {
+    let mut block = [0; PAGE_SIZE];
+    let Some(digits) = without_capitals(digits) else {
+        return Err(unwritten());
+    };
+    let Some(front) = block.get_mut(..digits.len() / 2) else {
+        return Err(unwritten());
+    };
+    match hex::decode_to_slice(digits, front) {
+        Ok(()) => Ok(block),
+        Err(_) => Err(unwritten()),
+    }
+}
+
 // Writes the blocks `INDEX:HEX`, so that they last.
 fn fill(disk: &mut HoldingDisk, blocks: &str) -> io::Result<()> {
     for block in blocks.split(',') {
-        let (index, content) = text::parted(block, ":")?;
+        let (index, content) = parted(block, ":")?;
         if content != "torn" {
-            disk.write(text::number(index)?, &decode(content)?);
+            disk.write(parsed(index)?, &block_of(content)?);
         }
     }
     disk.sync();
@@ -25,9 +43,9 @@ fn fill(disk: &mut HoldingDisk, blocks: &str) -> io::Result<()> {
 // Tears the blocks `INDEX:torn`: they are being written when the power fails.
 fn tear(disk: &mut HoldingDisk, blocks: &str) -> io::Result<()> {
     for block in blocks.split(',') {
-        let (index, content) = text::parted(block, ":")?;
+        let (index, content) = parted(block, ":")?;
         if content == "torn" {
-            disk.write(text::number(index)?, &[0; PAGE_SIZE]);
+            disk.write(parsed(index)?, &[0; PAGE_SIZE]);
         }
     }
     disk.cut_to(Fate::Torn);
@@ -36,9 +54,9 @@ fn tear(disk: &mut HoldingDisk, blocks: &str) -> io::Result<()> {
 
 fn write_found(out: &mut Vec<u8>, found: &Restarted) -> io::Result<()> {
     let top = found.top;
-    write!(out, "{top} ")?;
-    write_position(out, found.state.next)?;
-    write_open(out, found.state.tickets.as_slice())
+    let next = AsPosition(found.state.next);
+    let open = AsOpen(found.state.tickets.as_slice());
+    write!(out, "{top} {next} {open}")
 }
 
 fn out_of_memory() -> io::Error {
@@ -48,35 +66,25 @@ fn out_of_memory() -> io::Error {
 fn write_unmade(out: &mut Vec<u8>, unmade: Unmade) -> io::Result<()> {
     match unmade {
         Unmade::Refused(refusal) => {
-            let disks::Code { number, beside } = refusal.code();
-            write!(out, "refused {number} {beside}")
+            let code = refusal.code();
+            write!(out, "{code}")
         }
         Unmade::NoMemory => Err(out_of_memory()),
     }
 }
 
 fn write_refusal(out: &mut Vec<u8>, refusal: Refusal) -> io::Result<()> {
-    let Some(code) = refusal.code() else {
-        return Err(out_of_memory());
-    };
-    let number = code.number;
-    write!(out, "refused {number}")?;
-    match code.beside {
-        Beside::Nothing => Ok(()),
-        Beside::Minute(minute) => {
-            let count = minute.count();
-            write!(out, " {count}")
-        }
-        Beside::Page(page, block, cause) => write!(out, " {page} {block} {cause}"),
-        Beside::Line(line) => write!(out, " {line}"),
+    match refusal.code() {
+        Some(code) => write!(out, "{code}"),
+        None => Err(out_of_memory()),
     }
 }
 
 // Answers `COUNT LINES BLOCKS`, where the blocks that are not named hold zeros and `-` names none.
 pub(crate) fn write_restart(heap: Global, out: &mut Vec<u8>, question: &str) -> io::Result<()> {
-    let (count, rest) = text::parted(question, " ")?;
-    let (lines, blocks) = text::parted(rest, " ")?;
-    let mut disk = match HoldingDisk::new(heap, text::number(count)?) {
+    let (count, rest) = parted(question, " ")?;
+    let (lines, blocks) = parted(rest, " ")?;
+    let mut disk = match HoldingDisk::new(heap, parsed(count)?) {
         Ok(disk) => disk,
         Err(unmade) => return write_unmade(out, unmade),
     };
@@ -84,7 +92,7 @@ pub(crate) fn write_restart(heap: Global, out: &mut Vec<u8>, question: &str) -> 
         fill(&mut disk, blocks)?;
         tear(&mut disk, blocks)?;
     }
-    match restart(heap, &disk, text::number(lines)?) {
+    match restart(heap, &disk, parsed(lines)?) {
         Ok(found) => write_found(out, &found),
         Err(refusal) => write_refusal(out, refusal),
     }

@@ -1,13 +1,28 @@
 // Questions about the calendar.
-use crate::text;
+use crate::text::FORM;
 use calendar::{Date, date_of, weekday_of};
+use cases::{Program, parsed};
+use std::alloc::Global;
 use std::io;
 use std::io::Write;
 
-// Answers `DAY` with `YEAR MONTH DAY WEEKDAY`.
-pub(crate) fn write_date(out: &mut Vec<u8>, question: &str) -> io::Result<()> {
-    let n = text::count(question)?;
-    let Date { year, month, day } = date_of(n);
-    let weekday = weekday_of(n);
-    write!(out, "{year} {month} {day} {weekday}")
+#[derive(Drop)]
+pub(crate) struct Dates;
+
+impl Program for Dates {
+    fn label(&self) -> &str {
+        "date.txt "
+    }
+
+    fn form(&self) -> &str {
+        FORM
+    }
+
+    // Answers `DAY` with `YEAR MONTH DAY WEEKDAY`.
+    fn answer(&self, _heap: Global, out: &mut Vec<u8>, question: &str) -> io::Result<()> {
+        let n = parsed(question)?;
+        let Date { year, month, day } = date_of(n);
+        let weekday = weekday_of(n);
+        write!(out, "{year} {month} {day} {weekday}")
+    }
 }

@@ -4,8 +4,9 @@ ghost use Rattle.crontab.specs.Job.{wild};
 ghost use Rattle.schedule.specs.Match.{matches as matches_label};
 ghost use Rattle.time_table.specs.Least.{Least};
 
-use crate::text;
-use crate::zones::write_refusal;
+use crate::text::{FORM, entries};
+use crate::zones::write_code;
+use cases::{Program, parsed, parted};
 use crontab::Job;
 use schedule::{due_at, matches, parts_of};
 use std::alloc::Global;
@@ -45,57 +46,70 @@ fn least_due(job: &Job, window: Window) -> Option<Label>
     }
 }
 
-// What the libraries say of the first line, once as a whole and once label by label.
+// Why a line has no label.
 #[derive(Clone, Copy)]
-struct Found {
-    due: bool,
-    label: Option<Label>,
+enum Fault {
+    Refused(Refusal),
+    // the line is due and no label says so, or the other way round
+    Disagree,
 }
 
-fn ask<Z: Zone>(z: &Z, jobs: &[Job], u: Minute) -> Result<Found, Refusal> {
+impl From<Refusal> for Fault {
+    fn from(refusal: Refusal) -> Fault {
+        Fault::Refused(refusal)
+    }
+}
+
+// What the libraries say of the first line, once as a whole and once label by label.
+fn ask<Z: Zone>(z: &Z, jobs: &[Job], u: Minute) -> Result<Option<Label>, Fault> {
     let window = fresh(z, u)?;
-    let due = match Position::new(u, 0) {
-        Some(first) => due_at(z, jobs, first)?,
-        None => false,
-    };
-    let label = match jobs.first() {
-        Some(job) => least_due(job, window),
-        None => None,
-    };
-    Ok(Found { due, label })
-}
-
-fn write_found(out: &mut Vec<u8>, found: Found) -> io::Result<()> {
-    match found.label {
-        Some(label) if found.due => {
-            let count = label.count();
-            write!(out, "{count}")
-        }
-        None if !found.due => out.write_all(b"none"),
-        _ => out.write_all(b"due and labels that do not agree"),
+    let due = due_at(z, jobs, Position::start_of(u))?;
+    let label = jobs.first().and_then(|job| least_due(job, window));
+    if due == label.is_some() {
+        Ok(label)
+    } else {
+        Err(Fault::Disagree)
     }
 }
 
 fn write_answer<Z: Zone>(out: &mut Vec<u8>, z: &Z, jobs: &[Job], u: Minute) -> io::Result<()> {
     match ask(z, jobs, u) {
-        Ok(found) => write_found(out, found),
-        Err(refusal) => write_refusal(out, refusal),
+        Ok(Some(label)) => {
+            let count = label.count();
+            write!(out, "{count}")
+        }
+        Ok(None) => out.write_all(b"none"),
+        Err(Fault::Refused(refusal)) => write_code(out, refusal.code()),
+        Err(Fault::Disagree) => out.write_all(b"due and labels that do not agree"),
     }
 }
 
-// Answers `TABLE | FIELDS | u`.
-pub(crate) fn write_due(heap: Global, out: &mut Vec<u8>, question: &str) -> io::Result<()> {
-    let (table, rest) = text::parted(question, " | ")?;
-    let (fields, u) = text::parted(rest, " | ")?;
-    let entries = text::entries(heap, table)?;
-    let checked = TableZone::new(entries.as_slice());
-    if let Some(refusal) = checked.refusal {
-        return write_refusal(out, refusal);
+#[derive(Drop)]
+pub(crate) struct Dues;
+
+impl Program for Dues {
+    fn label(&self) -> &str {
+        "due.txt "
     }
-    let file = format!(in heap; "{fields} x\n")?;
-    let u = Minute::new(text::count(u)?);
-    match crontab::read(heap, file.as_bytes()) {
-        Ok(taken) => write_answer(out, &checked.zone, taken.jobs(), u),
-        Err(_) => out.write_all(b"a crontab that is not taken"),
+
+    fn form(&self) -> &str {
+        FORM
+    }
+
+    // Answers `TABLE | FIELDS | u`.
+    fn answer(&self, heap: Global, out: &mut Vec<u8>, question: &str) -> io::Result<()> {
+        let (table, rest) = parted(question, " | ")?;
+        let (fields, u) = parted(rest, " | ")?;
+        let entries = entries(heap, table)?;
+        let zone = match TableZone::checked(entries.as_slice()) {
+            Ok(zone) => zone,
+            Err(refusal) => return write_code(out, refusal.code()),
+        };
+        let file = format!(in heap; "{fields} x\n")?;
+        let u = Minute::new(parsed(u)?);
+        match crontab::read(heap, file.as_bytes()) {
+            Ok(taken) => write_answer(out, &zone, taken.jobs(), u),
+            Err(_) => out.write_all(b"a crontab that is not taken"),
+        }
     }
 }

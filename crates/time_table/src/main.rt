@@ -7,80 +7,28 @@ mod dues;
 mod text;
 mod zones;
 
-use std::alloc::Global;
+use cases::{Program, judge};
 use std::io::Write;
 use std::{fs, io};
 
-#[derive(Clone, Copy)]
-enum Table {
-    Zone,
-    Join,
-    Date,
-    Due,
-}
-
-impl Table {
-    fn file(self) -> &'static str {
-        match self {
-            Table::Zone => "zone.txt",
-            Table::Join => "join.txt",
-            Table::Date => "date.txt",
-            Table::Due => "due.txt",
-        }
-    }
-
-    fn answer_to(self, heap: Global, question: &str) -> io::Result<Vec<u8>> {
-        let mut out = Vec::new(heap);
-        match self {
-            Table::Zone => zones::write_zone(heap, &mut out, question)?,
-            Table::Join => zones::write_join(heap, &mut out, question)?,
-            Table::Date => days::write_date(&mut out, question)?,
-            Table::Due => dues::write_due(heap, &mut out, question)?,
-        }
-        Ok(out)
-    }
-}
-
-// Says how the answer differs from that of case `k`, counted from 1, and whether it does.
-fn differs(
-    heap: Global,
+// Runs the program on the cases of a file.
+fn report<P: Program>(
+    rt: &HostRuntime,
     out: &mut Vec<u8>,
-    table: Table,
-    k: usize,
-    case: &str,
-) -> io::Result<bool> {
-    let (question, expected) = text::parted(case, " -> ")?;
-    let got = table.answer_to(heap, question)?;
-    if got.as_slice() == expected.as_bytes() {
-        return Ok(false);
-    }
-    let file = table.file();
-    write!(out, "{file} case {k}: expected {expected} got ")?;
-    out.write_all(got.as_slice())?;
-    out.write_all(b"\n")?;
-    Ok(true)
-}
-
-fn judge(heap: Global, out: &mut Vec<u8>, table: Table, cases: &str) -> io::Result<()> {
-    let mut count = 0usize;
-    let mut different = 0usize;
-    for case in cases.lines() {
-        count = count.saturating_add(1);
-        if differs(heap, out, table, count, case)? {
-            different = different.saturating_add(1);
-        }
-    }
-    let file = table.file();
-    writeln!(out, "{file} cases {count} differ {different}")
+    file: &str,
+    program: &P,
+) -> io::Result<()> {
+    let cases = fs::read_to_string(rt, file)?;
+    let tally = judge(rt.alloc(), out, program, cases.as_str())?;
+    writeln!(out, "{file} {tally}")
 }
 
 fn run(rt: &HostRuntime) -> io::Result<()> {
-    let heap = rt.alloc();
-    let mut out = Vec::new(heap);
-    for table in [Table::Zone, Table::Join, Table::Date, Table::Due] {
-        let cases = fs::read_to_string(rt, table.file())?;
-        judge(heap, &mut out, table, cases.as_str())?;
-    }
+    let mut out = Vec::new(rt.alloc());
+    report(rt, &mut out, "zone.txt", &zones::Offsets)?;
+    report(rt, &mut out, "join.txt", &zones::Joins)?;
+    report(rt, &mut out, "date.txt", &days::Dates)?;
+    report(rt, &mut out, "due.txt", &dues::Dues)?;
     rt.stdout().write_all(out.as_slice())
 }
 

@@ -1,16 +1,31 @@
 // Questions about zones: the offset at a minute, and when it changes next.
-use crate::text;
+use crate::text::{FORM, entries};
+use cases::{Program, parsed, parted};
 use std::alloc::Global;
-use std::io;
 use std::io::Write;
+use std::{fmt, io};
 use time::Minute;
-use zone::{Code, Refusal, TableZone, Zone};
+use zone::{Code, Entry, Refusal, TableZone, Zone};
 use zone_join::Join;
 
+// What a zone says of a minute.
 #[derive(Clone, Copy)]
 struct Told {
     offset: i32,
     next: Option<Minute>,
+}
+
+impl fmt::Display for Told {
+    fn fmt<W: fmt::Write>(&self, f: &mut fmt::Formatter<W>) -> fmt::Result {
+        let offset = self.offset;
+        match self.next {
+            Some(next) => {
+                let minute = next.count();
+                write!(f, "{offset} {minute}")
+            }
+            None => write!(f, "{offset} none"),
+        }
+    }
 }
 
 fn ask<Z: Zone>(z: &Z, u: Minute) -> Result<Told, Refusal> {
@@ -20,20 +35,8 @@ fn ask<Z: Zone>(z: &Z, u: Minute) -> Result<Told, Refusal> {
     })
 }
 
-pub(crate) fn write_refusal(out: &mut Vec<u8>, refusal: Refusal) -> io::Result<()> {
-    let Code { number, beside } = refusal.code();
-    write!(out, "refused {number} {beside}")
-}
-
-fn write_told(out: &mut Vec<u8>, told: Told) -> io::Result<()> {
-    let offset = told.offset;
-    match told.next {
-        Some(next) => {
-            let minute = next.count();
-            write!(out, "{offset} {minute}")
-        }
-        None => write!(out, "{offset} none"),
-    }
+pub(crate) fn write_code(out: &mut Vec<u8>, code: Code) -> io::Result<()> {
+    write!(out, "{code}")
 }
 
 fn write_answer<Z: Zone>(out: &mut Vec<u8>, z: &Z, u: i64) -> io::Result<()> {
@@ -42,34 +45,69 @@ fn write_answer<Z: Zone>(out: &mut Vec<u8>, z: &Z, u: i64) -> io::Result<()> {
         return write!(out, "refused 13 {u}");
     };
     match ask(z, Minute::new(count)) {
-        Ok(told) => write_told(out, told),
-        Err(refusal) => write_refusal(out, refusal),
+        Ok(told) => write!(out, "{told}"),
+        Err(refusal) => write_code(out, refusal.code()),
     }
 }
 
-// Answers `TABLE u`.
-pub(crate) fn write_zone(heap: Global, out: &mut Vec<u8>, question: &str) -> io::Result<()> {
-    let (table, u) = text::parted(question, " ")?;
-    let entries = text::entries(heap, table)?;
-    let checked = TableZone::new(entries.as_slice());
-    match checked.refusal {
-        Some(refusal) => write_refusal(out, refusal),
-        None => write_answer(out, &checked.zone, text::number(u)?),
+#[derive(Drop)]
+pub(crate) struct Offsets;
+
+impl Program for Offsets {
+    fn label(&self) -> &str {
+        "zone.txt "
+    }
+
+    fn form(&self) -> &str {
+        FORM
+    }
+
+    // Answers `TABLE u`.
+    fn answer(&self, heap: Global, out: &mut Vec<u8>, question: &str) -> io::Result<()> {
+        let (table, u) = parted(question, " ")?;
+        let entries = entries(heap, table)?;
+        match TableZone::checked(entries.as_slice()) {
+            Ok(zone) => write_answer(out, &zone, parsed(u)?),
+            Err(refusal) => write_code(out, refusal.code()),
+        }
     }
 }
 
-// Answers `FIRST SECOND t u`, of two tables that are joined at minute `t`.
-pub(crate) fn write_join(heap: Global, out: &mut Vec<u8>, question: &str) -> io::Result<()> {
-    let (first, rest) = text::parted(question, " ")?;
-    let (second, rest) = text::parted(rest, " ")?;
-    let (t, u) = text::parted(rest, " ")?;
-    let first = text::entries(heap, first)?;
-    let second = text::entries(heap, second)?;
-    let a = TableZone::new(first.as_slice());
-    let b = TableZone::new(second.as_slice());
-    let join = Join::new(a.zone, b.zone, Minute::new(text::count(t)?));
-    match a.refusal.or(b.refusal).or(join.refusal()) {
-        Some(refusal) => write_refusal(out, refusal),
-        None => write_answer(out, &join, text::number(u)?),
+// The two zones, joined at minute `t`; or the first refusal, of the first, of the second, of the join.
+fn joined<'a>(
+    first: &'a [Entry],
+    second: &'a [Entry],
+    t: Minute,
+) -> Result<Join<TableZone<'a>, TableZone<'a>>, Refusal> {
+    let join = Join::new(TableZone::checked(first)?, TableZone::checked(second)?, t);
+    match join.refusal() {
+        Some(refusal) => Err(refusal),
+        None => Ok(join),
+    }
+}
+
+#[derive(Drop)]
+pub(crate) struct Joins;
+
+impl Program for Joins {
+    fn label(&self) -> &str {
+        "join.txt "
+    }
+
+    fn form(&self) -> &str {
+        FORM
+    }
+
+    // Answers `FIRST SECOND t u`, of two tables that are joined at minute `t`.
+    fn answer(&self, heap: Global, out: &mut Vec<u8>, question: &str) -> io::Result<()> {
+        let (first, rest) = parted(question, " ")?;
+        let (second, rest) = parted(rest, " ")?;
+        let (t, u) = parted(rest, " ")?;
+        let first = entries(heap, first)?;
+        let second = entries(heap, second)?;
+        match joined(first.as_slice(), second.as_slice(), Minute::new(parsed(t)?)) {
+            Ok(join) => write_answer(out, &join, parsed(u)?),
+            Err(refusal) => write_code(out, refusal.code()),
+        }
     }
 }

@@ -2,132 +2,49 @@
 // file that the first argument names or else from standard input.
 #![tactic(auto)]
 
-mod refusal;
+mod fault;
 mod rows;
 mod script;
 #[cfg(test)]
 mod tests;
 
-use crate::refusal::Fault;
-use std::alloc::{AllocError, Global};
-use std::io::{Read, Write};
+use crate::fault::Fault;
+use std::alloc::Global;
+use std::io::Write;
 use std::process::ExitCode;
-use std::{env, fs, io};
+use tool::{Program, Stop, run};
 use zone::TableZone;
 
-// Why the program ends with status 1.
 #[derive(Drop)]
-enum Stop {
-    Refused,
-    Memory,
-    Unread(String, io::Error),
-    Failed(io::Error),
-}
+struct Upcoming;
 
-impl From<io::Error> for Stop {
-    fn from(e: io::Error) -> Stop {
-        if e.kind() == io::ErrorKind::OutOfMemory {
-            Stop::Memory
-        } else {
-            Stop::Failed(e)
+impl Program for Upcoming {
+    fn name(&self) -> &str {
+        "upcoming"
+    }
+
+    fn judge(&self, heap: Global, script: &[u8]) -> Result<Vec<u8>, Stop> {
+        let mut text = Vec::new(heap);
+        match list(heap, &mut text, script) {
+            Ok(()) => Ok(text),
+            Err(Fault::Refused(refusal)) => {
+                writeln!(text, "{refusal}")?;
+                Err(Stop::Refused(text))
+            }
+            Err(Fault::Failed(e)) => Err(e.into()),
         }
     }
-}
-
-impl From<AllocError> for Stop {
-    fn from(_e: AllocError) -> Stop {
-        Stop::Memory
-    }
-}
-
-// What is to be printed of a script, and whether it was taken.
-#[derive(Drop)]
-struct Answer {
-    text: Vec<u8>,
-    taken: bool,
 }
 
 // Takes the script's parts in the order in which their faults are told, and writes the rows once none is left.
 fn list(heap: Global, out: &mut Vec<u8>, bytes: &[u8]) -> Result<(), Fault> {
     let script = script::read(heap, bytes)?;
-    let table = TableZone::new(script.entries.as_slice());
-    if let Some(refusal) = table.refusal {
-        return Err(Fault::Zone(refusal));
-    }
+    let zone = TableZone::checked(script.entries.as_slice())?;
     let taken = crontab::read(heap, script.crontab)?;
     let span = rows::span_of(script.from, script.to)?;
-    rows::write_rows(out, &table.zone, taken.jobs(), span)
-}
-
-fn judge(heap: Global, bytes: &[u8]) -> io::Result<Answer> {
-    let mut text = Vec::new(heap);
-    match list(heap, &mut text, bytes) {
-        Ok(()) => Ok(Answer { text, taken: true }),
-        Err(fault) => {
-            refusal::write_refusal(&mut text, fault)?;
-            Ok(Answer { text, taken: false })
-        }
-    }
-}
-
-fn unread(name: String, e: io::Error) -> Stop {
-    if e.kind() == io::ErrorKind::OutOfMemory {
-        Stop::Memory
-    } else {
-        Stop::Unread(name, e)
-    }
-}
-
-fn read_file(rt: &HostRuntime, name: String) -> Result<Vec<u8>, Stop> {
-    match fs::read(rt, name.as_str()) {
-        Ok(bytes) => Ok(bytes),
-        Err(e) => Err(unread(name, e)),
-    }
-}
-
-fn read_standard_input(rt: &HostRuntime) -> Result<Vec<u8>, Stop> {
-    let heap = rt.alloc();
-    let mut bytes = Vec::new(heap);
-    match rt.stdin().read_to_end(&mut bytes) {
-        Ok(_) => Ok(bytes),
-        Err(e) => Err(unread(String::from_str(heap, "standard input")?, e)),
-    }
-}
-
-fn run(rt: &HostRuntime) -> Result<(), Stop> {
-    let mut args = env::args(rt)?;
-    // the first word is the program's own name
-    let _ = args.next();
-    let bytes = match args.next() {
-        Some(name) => read_file(rt, name)?,
-        None => read_standard_input(rt)?,
-    };
-    let answer = judge(rt.alloc(), bytes.as_slice())?;
-    rt.stdout().write_all(answer.text.as_slice())?;
-    if answer.taken {
-        Ok(())
-    } else {
-        Err(Stop::Refused)
-    }
-}
-
-// Says on standard error what standard output does not say.
-fn tell(rt: &HostRuntime, stop: &Stop) -> io::Result<()> {
-    match stop {
-        Stop::Refused => Ok(()),
-        Stop::Memory => eprintln!(rt; "out of memory"),
-        Stop::Unread(name, e) => eprintln!(rt; "upcoming: cannot read {name}: {e}"),
-        Stop::Failed(e) => eprintln!(rt; "upcoming: {e}"),
-    }
+    rows::write_rows(out, &zone, taken.jobs(), span)
 }
 
 fn main(rt: HostRuntime) -> ExitCode {
-    match run(&rt) {
-        Ok(()) => ExitCode::SUCCESS,
-        Err(stop) => {
-            // where standard error fails too, the status is all that is left to say it
-            let _ = tell(&rt, &stop);
-            ExitCode::FAILURE
-        }
-    }
+    run(&rt, &Upcoming)
 }

@@ -1,18 +1,16 @@
 // The rows: which lines are due at which minutes.
 ghost use Rattle.std.specs.Prelude.{◌≡◌, true, false, MatchResult};
-ghost use Rattle.zone.specs.Offsets.{served as is_served};
-ghost use Rattle.upcoming.specs.declared.refusal.Fault.TheVariants.{Minute as NoMinute};
+ghost use Rattle.time.specs.Limits.{served as is_served};
+ghost use Rattle.upcoming.specs.declared.fault.Refusal.TheVariants.{Minute as NoMinute};
 
-use crate::refusal::Fault;
-use calendar::{Date, date_of};
+use crate::fault::{Fault, Refusal};
+use calendar::{MINUTES_A_DAY, date_of};
 use crontab::Job;
 use schedule::Moment;
-use std::io;
+use std::fmt;
 use std::io::Write;
-use time::{FIRST_MINUTE, LAST_MINUTE, Minute};
+use time::Minute;
 use zone::{Label, Zone, label_at};
-
-const MINUTES_A_DAY: u32 = 1440;
 
 // The minutes from `from` to `to`, both among them.
 #[derive(Clone, Copy)]
@@ -22,38 +20,42 @@ pub(crate) struct Span {
 }
 
 // A minute at which a line can be due.
-fn served(count: u64) -> Result<u32, Fault>
+fn served(count: u64) -> Result<u32, Refusal>
     ensures { MatchResult result
         (λ u. (u ≡ count) × (is_served count ≡ true))
         (λ e. (e ≡ NoMinute count) × (is_served count ≡ false)) }
 {
     match u32::try_from(count) {
-        Ok(u) if u >= FIRST_MINUTE && u <= LAST_MINUTE => Ok(u),
-        _ => Err(Fault::Minute(count)),
+        Ok(u) if Minute::new(u).is_served() => Ok(u),
+        _ => Err(Refusal::Minute(count)),
     }
 }
 
-pub(crate) fn span_of(from: u64, to: u64) -> Result<Span, Fault> {
+pub(crate) fn span_of(from: u64, to: u64) -> Result<Span, Refusal> {
     Ok(Span {
         from: served(from)?,
         to: served(to)?,
     })
 }
 
-// What the local clock shows, as `YYYY-MM-DD HH:MM`.
-fn write_label(out: &mut Vec<u8>, label: Label) -> io::Result<()> {
-    let count = label.count();
-    let Date { year, month, day } = date_of(count / MINUTES_A_DAY);
-    let hour = count % MINUTES_A_DAY / 60;
-    let minute = count % 60;
-    writeln!(out, "{year:04}-{month:02}-{day:02} {hour:02}:{minute:02}")
+// What a local clock shows, as `YYYY-MM-DD HH:MM`.
+#[derive(Clone, Copy)]
+struct Clock(Label);
+
+impl fmt::Display for Clock {
+    fn fmt<W: fmt::Write>(&self, f: &mut fmt::Formatter<W>) -> fmt::Result {
+        let count = self.0.count();
+        let date = date_of(count / MINUTES_A_DAY);
+        let hour = count % MINUTES_A_DAY / 60;
+        let minute = count % 60;
+        write!(f, "{date} {hour:02}:{minute:02}")
+    }
 }
 
 fn write_row<Z: Zone>(out: &mut Vec<u8>, z: &Z, line: usize, minute: Minute) -> Result<(), Fault> {
     let u = minute.count();
-    write!(out, "{line} {u} ")?;
-    write_label(out, label_at(z, minute)?)?;
-    Ok(())
+    let clock = Clock(label_at(z, minute)?);
+    Ok(writeln!(out, "{line} {u} {clock}")?)
 }
 
 // The rows of the lines that are due at `minute`, and how many they are.

@@ -3,7 +3,7 @@ ghost use Rattle.std.specs.Prelude.{◌≡◌, ◌<◌, length, IfSome, MatchOpt
 ghost use Rattle.upcoming.specs.Number.{number_of};
 ghost use Rattle.upcoming.specs.Parted.{Lacks, Parted};
 
-use crate::refusal::Fault;
+use crate::fault::{Fault, Refusal};
 use std::alloc::Global;
 use time::Minute;
 use zone::Entry;
@@ -24,12 +24,8 @@ fn cut(text: &[u8], b: u8) -> Option<(&[u8], &[u8])>
         (λ q. Parted text.now b q.0.now q.1.now) }
     ensures shorter { IfSome result (λ q. length q.1.now < length text.now) }
 {
-    for (i, x) in text.iter().enumerate() {
-        if *x == b {
-            return Some((&text[0..i], &text[i + 1..]));
-        }
-    }
-    None
+    let i = text.iter().position(|x| *x == b)?;
+    Some((&text[..i], &text[i + 1..]))
 }
 
 // A number in decimal digits; one that is too large counts as the largest.
@@ -104,12 +100,10 @@ pub(crate) fn read(heap: Global, bytes: &[u8]) -> Result<Script<'_>, Fault> {
         text = rest;
     }
     let line = entries.len().saturating_add(1);
-    let Some((from, to, text)) = span_line(text) else {
-        return Err(Fault::Line(line));
-    };
-    let Some(crontab) = text.strip_prefix(b"crontab\n") else {
-        return Err(Fault::Line(line.saturating_add(1)));
-    };
+    let (from, to, text) = span_line(text).ok_or(Refusal::Line(line))?;
+    let crontab = text
+        .strip_prefix(b"crontab\n")
+        .ok_or(Refusal::Line(line.saturating_add(1)))?;
     Ok(Script {
         entries,
         from,

@@ -1,7 +1,8 @@
-use crate::judge;
+use crate::Upcoming;
 use std::alloc::Global;
 use std::process::Abort;
 use std::test::Fail;
+use tool::{Program, Stop};
 
 const REFUSED: [(&[u8], &[u8]); 19] = [
     // the script ends too soon
@@ -50,9 +51,17 @@ fn expect(
     taken: bool,
     text: &[u8],
 ) -> Result<(), Fail> {
-    let answer = judge(heap, script)?;
-    assert_eq!(rt; answer.taken, taken);
-    assert_eq!(rt; answer.text.as_slice(), text);
+    match Upcoming.judge(heap, script) {
+        Ok(printed) => {
+            assert!(rt; taken);
+            assert_eq!(rt; printed.as_slice(), text);
+        }
+        Err(Stop::Refused(printed)) => {
+            assert!(rt; !taken);
+            assert_eq!(rt; printed.as_slice(), text);
+        }
+        Err(_other) => assert!(rt; false, "the program failed"),
+    }
     Ok(())
 }
 
