@@ -1,9 +1,5 @@
 -- What the answers of the calls say.
-use mathlib.Core.Path.{◌≡◌, refl, subst}
-use mathlib.Core.Logic.{inl, inr}
-use Prim.Native.Nat.{ℕ, suc, ◌-◌, ◌≤◌}
-use native.Mathlib.Omega.{arith}
-use lib.ListN.{length}
+use Rattle.std.proofs.Common.{◌≡◌, refl, subst, inl, inr, ℕ, suc, ◌-◌, ◌≤◌, arith, length}
 use Rattle.journal_model.specs.Runs.{none_in_flight}
 use Rattle.page.specs.declared.head.Ending.{Ending}
 use Rattle.service.proofs.Causes.{reading_cause, look_cause, log_cause, sync_cause, launch_cause, settle_cause, hand_back_cause}

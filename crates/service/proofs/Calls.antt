@@ -1,12 +1,6 @@
 -- Each call has an outcome.
-use mathlib.Core.Path.{◌≡◌, refl, sym, ap, ◌∙◌}
-use mathlib.Core.Logic.{◌⊎◌, inl, inr}
-use mathlib.Core.List.{List, [], ◌∷◌}
-use mathlib.Core.Bool.{Bool, true, false}
-use Prim.Native.Nat.{ℕ, zero, suc, ◌+◌, ◌-◌, ◌≤◌, ◌<◌}
-use native.Mathlib.Omega.{arith}
+use Rattle.std.proofs.Common.{◌≡◌, refl, sym, ap, ◌∙◌, ◌⊎◌, inl, inr, List, [], ◌∷◌, Bool, true, false, ℕ, zero, suc, ◌+◌, ◌-◌, ◌≤◌, ◌<◌, arith, length}
 use native.Mathlib.Decide.{ℕ_discrete, dec_lt, dec_le}
-use lib.ListN.{length}
 use Rattle.disk.specs.Contents.{Among}
 use Rattle.journal_model.specs.Pages.{Page}
 use Rattle.journal_model.specs.Runs.{Flight, none_in_flight, in_flight}

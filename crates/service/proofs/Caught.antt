@@ -1,12 +1,6 @@
 -- Where nothing is left to launch, all is launched.
-use mathlib.Core.Path.{◌≡◌, refl, sym, ap, ◌∙◌, subst}
-use mathlib.Core.Logic.{inl, inr}
-use mathlib.Core.List.{[], ◌∷◌, ◌++◌}
-use mathlib.Core.Bool.{true, false}
-use Prim.Native.Nat.{ℕ, suc, ◌-◌, ◌≤◌, ◌<◌}
-use native.Mathlib.Omega.{arith}
+use Rattle.std.proofs.Common.{◌≡◌, refl, sym, ap, ◌∙◌, subst, inl, inr, [], ◌∷◌, ◌++◌, true, false, ℕ, suc, ◌-◌, ◌≤◌, ◌<◌, arith, length}
 use native.Mathlib.Decide.{dec_lt}
-use lib.ListN.{length}
 use Rattle.disk.specs.Contents.{Among}
 use Rattle.journal_model.specs.Pages.{Body, State, leaves, state_after}
 use Rattle.journal_model.specs.Positions.{minute_of}

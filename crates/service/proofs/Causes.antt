@@ -1,12 +1,5 @@
 -- Each call comes to exactly what has a cause.
-use mathlib.Core.Path.{◌≡◌, refl, sym, ap, ap₂, ◌∙◌, subst}
-use mathlib.Core.Logic.{inl, inr}
-use mathlib.Core.List.{List, [], ◌∷◌}
-use mathlib.Core.Bool.{true}
-use Prim.Native.Nat.{ℕ, suc, ◌%◌, ◌≤◌, ◌<◌}
-use native.Mathlib.Omega.{arith}
-use lib.ListN.{length}
-use lib.Dec.{eqb, leb, ltb}
+use Rattle.std.proofs.Common.{◌≡◌, refl, sym, ap, ap₂, ◌∙◌, subst, inl, inr, List, [], ◌∷◌, true, ℕ, suc, ◌%◌, ◌≤◌, ◌<◌, arith, length, eqb, leb, ltb}
 use Rattle.disk.specs.Contents.{Among}
 use Rattle.journal_model.specs.Disks.{page, Disk, Written, Synced}
 use Rattle.journal_model.specs.Pages.{Page}

@@ -1,12 +1,5 @@
 -- A cut, and the restart after it, keep the invariant.
-use mathlib.Core.Path.{◌≡◌, refl, sym, ap, ◌∙◌, subst}
-use mathlib.Core.Logic.{inl, inr}
-use mathlib.Core.List.{List, ◌∷◌}
-use mathlib.Core.Bool.{cond}
-use Prim.Native.Nat.{ℕ, suc, ◌<◌}
-use native.Mathlib.Omega.{arith}
-use lib.ListN.{length}
-use lib.Dec.{eqb}
+use Rattle.std.proofs.Common.{◌≡◌, refl, sym, ap, ◌∙◌, subst, inl, inr, List, ◌∷◌, cond, ℕ, suc, ◌<◌, arith, length, eqb}
 use Rattle.disk.specs.Contents.{Among}
 use Rattle.journal_model.proofs.Sound.{Sound, sound_restarts, restarts_one, Survives, survives_old, survives_new, sound_cut}
 use Rattle.journal_model.specs.Disks.{Disk, Cut}

@@ -1,10 +1,6 @@
 -- What more is kept: the horizon, the launcher, the finish slip, and the tickets open at the last restart.
-use mathlib.Core.Path.{◌≡◌, refl, sym, ap, ◌∙◌, subst}
-use mathlib.Core.Logic.{◌⊎◌, inl, inr}
-use mathlib.Core.List.{List, [], ◌∷◌, ◌++◌}
-use Prim.Native.Nat.{ℕ, suc, ◌≤◌}
+use Rattle.std.proofs.Common.{◌≡◌, refl, sym, ap, ◌∙◌, subst, ◌⊎◌, inl, inr, List, [], ◌∷◌, ◌++◌, ℕ, suc, ◌≤◌, length}
 use native.Mathlib.Decide.{ℕ_discrete}
-use lib.ListN.{length}
 use Rattle.disk.specs.Contents.{Among}
 use Rattle.journal_model.specs.Positions.{minute_of}
 use Rattle.page.specs.Sound.{SoundEnding}

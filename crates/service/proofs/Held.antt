@@ -1,10 +1,5 @@
 -- What a step of a service has to show, and why the earliest logged ticket may be launched.
-use mathlib.Core.Path.{◌≡◌, refl, sym, ap, subst}
-use mathlib.Core.Logic.{inl, inr}
-use mathlib.Core.List.{[], ◌∷◌, ◌++◌}
-use mathlib.Core.Bool.{true}
-use Prim.Native.Nat.{ℕ, ◌≤◌, ◌<◌}
-use native.Mathlib.Omega.{arith}
+use Rattle.std.proofs.Common.{◌≡◌, refl, sym, ap, subst, inl, inr, [], ◌∷◌, ◌++◌, true, ℕ, ◌≤◌, ◌<◌, arith}
 use Rattle.disk.specs.Contents.{Among}
 use Rattle.journal_model.specs.Pages.{Body, format, start, done, State, leaves, state_after}
 use Rattle.journal_model.specs.Runs.{Flight, none_in_flight, in_flight}

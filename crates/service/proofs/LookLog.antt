@@ -1,10 +1,5 @@
 -- What the look and the log of a round do to the work that is left.
-use mathlib.Core.Path.{◌≡◌, refl, sym, ap, ◌∙◌, subst}
-use mathlib.Core.List.{[], ◌∷◌, ◌++◌}
-use mathlib.Core.Bool.{Bool}
-use Prim.Native.Nat.{ℕ, suc, ◌+◌, ◌-◌, ◌/◌, ◌≤◌, max}
-use native.Mathlib.Omega.{arith}
-use lib.ListN.{length}
+use Rattle.std.proofs.Common.{◌≡◌, refl, sym, ap, ◌∙◌, subst, [], ◌∷◌, ◌++◌, Bool, ℕ, suc, ◌+◌, ◌-◌, ◌/◌, ◌≤◌, max, arith, length}
 use Rattle.disk.specs.Contents.{Among}
 use Rattle.journal_model.specs.Pages.{Page}
 use Rattle.journal_model.specs.Runs.{Flight, none_in_flight, in_flight}

@@ -1,9 +1,5 @@
 -- The invariant holds throughout a service, and with it launch order and restart.
-use mathlib.Core.Path.{◌≡◌, refl, sym, ap, ◌∙◌, subst}
-use mathlib.Core.Logic.{inl, inr}
-use mathlib.Core.List.{List, [], ◌∷◌}
-use Prim.Native.Nat.{ℕ, suc}
-use native.Mathlib.Omega.{arith}
+use Rattle.std.proofs.Common.{◌≡◌, refl, sym, ap, ◌∙◌, subst, inl, inr, List, [], ◌∷◌, ℕ, suc, arith}
 use Rattle.journal_model.proofs.Sound.{proper_tickets, AirOk, Sound, sound_format}
 use Rattle.journal_model.specs.Disks.{Disk, Formatted}
 use Rattle.journal_model.specs.Pages.{format, done, Page, Shows, state_after, format_page}

@@ -1,10 +1,5 @@
 -- What the engine holds stays within the ranges of a journal page.
-use mathlib.Core.Path.{◌≡◌, sym, ap, ◌∙◌, subst}
-use mathlib.Core.Logic.{inl, inr}
-use mathlib.Core.List.{List}
-use Prim.Native.Nat.{ℕ, suc, ◌≤◌, ◌<◌}
-use native.Mathlib.Omega.{arith}
-use lib.ListN.{length}
+use Rattle.std.proofs.Common.{◌≡◌, sym, ap, ◌∙◌, subst, inl, inr, List, ℕ, suc, ◌≤◌, ◌<◌, arith, length}
 use Rattle.disk.specs.Contents.{Among}
 use Rattle.journal_model.specs.Pages.{Body, State, Page, leaves, state_after}
 use Rattle.journal_model.specs.Positions.{minute_of}

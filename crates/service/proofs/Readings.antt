@@ -1,7 +1,5 @@
 -- After rounds the service goes on, and nothing was read.
-use mathlib.Core.Path.{◌≡◌, refl, ◌∙◌, subst}
-use mathlib.Core.List.{◌∷◌}
-use Prim.Native.Nat.{ℕ}
+use Rattle.std.proofs.Common.{◌≡◌, refl, ◌∙◌, subst, ◌∷◌, ℕ}
 use Rattle.page.specs.declared.head.Ending.{Ending}
 use Rattle.service.proofs.Causes.{look_cause, log_cause, sync_cause, launch_cause, settle_cause}
 use Rattle.service.proofs.Further.{FinishSound}

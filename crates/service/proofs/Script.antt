@@ -1,12 +1,6 @@
 -- The small service, event by event: the determined calls are computed.
-use mathlib.Core.Path.{◌≡◌, refl, sym, ap, ◌∙◌, subst}
-use mathlib.Core.Logic.{◌⊎◌, inl, inr}
-use mathlib.Core.List.{List, [], ◌∷◌, ◌++◌}
-use mathlib.Core.Bool.{Bool, true, false, cond}
-use Prim.Native.Nat.{ℕ, suc, ◌%◌, ◌<◌}
-use native.Mathlib.Omega.{arith}
+use Rattle.std.proofs.Common.{◌≡◌, refl, sym, ap, ◌∙◌, subst, ◌⊎◌, inl, inr, List, [], ◌∷◌, ◌++◌, Bool, true, false, cond, ℕ, suc, ◌%◌, ◌<◌, arith, eqb}
 use native.Mathlib.Decide.{ℕ_discrete}
-use lib.Dec.{eqb}
 use Rattle.disk.specs.Contents.{Among}
 use Rattle.journal_model.specs.Disks.{Seen, torn, page, Disk, Includes, Written, Cut}
 use Rattle.journal_model.specs.Pages.{State, format_page}

@@ -1,13 +1,6 @@
 -- Each call that alters the journal, the table or the launches keeps the invariant.
-use mathlib.Core.Path.{◌≡◌, refl, sym, ap, ◌∙◌, subst}
-use mathlib.Core.Logic.{◌⊎◌, inl, inr}
-use mathlib.Core.List.{List, [], ◌∷◌, ◌++◌}
-use mathlib.Core.Bool.{Bool, true, not}
-use Prim.Native.Nat.{ℕ, suc, ◌%◌, ◌≤◌, ◌<◌}
-use native.Mathlib.Omega.{arith}
+use Rattle.std.proofs.Common.{◌≡◌, refl, sym, ap, ◌∙◌, subst, ◌⊎◌, inl, inr, List, [], ◌∷◌, ◌++◌, Bool, true, not, ℕ, suc, ◌%◌, ◌≤◌, ◌<◌, arith, length, eqb}
 use native.Mathlib.Decide.{ℕ_discrete}
-use lib.ListN.{length}
-use lib.Dec.{eqb}
 use Rattle.disk.specs.Contents.{Among}
 use Rattle.journal_model.proofs.Sound.{sound_sync, sound_write}
 use Rattle.journal_model.specs.Disks.{page, Disk, Written, Synced}
