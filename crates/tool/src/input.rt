@@ -13,10 +13,7 @@ fn unread(name: String, e: io::Error) -> Stop {
 }
 
 fn read_file(rt: &HostRuntime, name: String) -> Result<Vec<u8>, Stop> {
-    match fs::read(rt, name.as_str()) {
-        Ok(bytes) => Ok(bytes),
-        Err(e) => Err(unread(name, e)),
-    }
+    fs::read(rt, name.as_str()).map_err(|e| unread(name, e))
 }
 
 fn read_standard_input(rt: &HostRuntime) -> Result<Vec<u8>, Stop> {
