@@ -18,6 +18,7 @@ impl fmt::Display for Refusal {
     }
 }
 
+// Each program has an enum of its own: a library's generic one could not be given `From` another library's refusal.
 #[derive(Drop)]
 pub(crate) enum Fault {
     Refused(Refusal),
