@@ -10,9 +10,9 @@ use std::io::Write;
 use std::{fs, io};
 
 #[derive(Drop)]
-struct Restarts;
+struct Replay;
 
-impl Program for Restarts {
+impl Program for Replay {
     fn label(&self) -> &str {
         "replay "
     }
@@ -30,7 +30,7 @@ fn run(rt: &HostRuntime) -> io::Result<()> {
     let cases = fs::read_to_string(rt, "replay.txt")?;
     let heap = rt.alloc();
     let mut out = Vec::new(heap);
-    let tally = judge(heap, &mut out, &Restarts, cases.as_str())?;
+    let tally = judge(heap, &mut out, &Replay, cases.as_str())?;
     writeln!(out, "replay {tally}")?;
     rt.stdout().write_all(out.as_slice())
 }

@@ -1,1 +1,1 @@
-mod Down
+mod Found

@@ -19,15 +19,7 @@ use zone::{Label, Refusal, TableZone, Window, Zone, fresh};
 fn least_match(job: &Job, window: Window) -> Option<Label>
     ensures { Least (matches_label job.now) window.above.0 window.to.0 result }
 {
-    let mut label = window.to;
-    let mut least = None;
-    'labels: while label.count() > window.above.count() {
-        if matches(job, parts_of(label)) {
-            least = Some(label);
-        }
-        label = label.previous();
-    }
-    least
+    window.labels().find(|label| matches(job, parts_of(*label)))
 }
 
 // The least label for which the job line is due: a wild line goes by the label of the minute itself.

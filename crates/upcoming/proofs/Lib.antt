@@ -1,2 +1,1 @@
-mod Cut
 mod Digits
