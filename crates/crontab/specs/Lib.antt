@@ -4,3 +4,4 @@ pub mod Words
 pub mod Job
 pub mod Line
 pub mod File
+pub mod Lines

@@ -11,12 +11,7 @@ use crate::job::{Command, Job};
 fn part(file: &[u8], c: Command) -> Option<&[u8]>
     ensures { option_map (λ x. x.now) result ≡ bytes_of file.now c }
 {
-    let begin = c.at;
-    if begin > file.len() || c.length > file.len() - begin {
-        return None;
-    }
-    let end = begin + c.length;
-    Some(&file[begin..end])
+    file.get(c.at..)?.get(..c.length)
 }
 
 impl<'f> Crontab<'f> {
@@ -31,9 +26,7 @@ impl<'f> Crontab<'f> {
     pub fn command(&self, k: usize) -> Option<&'f [u8]>
         ensures { option_map (λ x. x.now) result ≡ command_of self.now.file.now (slice_get self.now.jobs.items k) }
     {
-        if k >= self.jobs.len() {
-            return None;
-        }
-        part(self.file, self.jobs[k].command)
+        let job = self.jobs.get(k)?;
+        part(self.file, job.command)
     }
 }

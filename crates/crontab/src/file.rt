@@ -7,13 +7,13 @@ ghost use Rattle.crontab.specs.File.{Added, file_reading, lines, lines_reading};
 
 use crate::job::Job;
 use crate::limits::LONGEST_FILE;
-use crate::line::read_line;
+use crate::line::Line;
+use crate::lines::Lines;
 use crate::refusal::Refusal;
-use scan::{Kind, scan};
 use std::alloc::{AllocFailed, Global};
 
 // The jobs of a file, which keeps the commands.
-#[derive(Drop)]
+#[derive(Debug, Drop)]
 pub struct Crontab<'f> {
     pub(crate) file: &'f [u8],
     pub(crate) jobs: Vec<Job>,
@@ -27,21 +27,17 @@ impl<T: Drop> From<AllocFailed<T>> for Refusal {
     }
 }
 
-// Reads line `n`, which begins at place `start` of the file, and adds its job, if it has one.
-fn add_line(jobs: &mut Vec<Job>, n: usize, start: usize, line: &[u8]) -> Result<(), Refusal>
-    requires { start ≤ longest_file }
+// Reads a line, and adds its job, if it has one.
+fn add_line(jobs: &mut Vec<Job>, line: Line<'_>) -> Result<(), Refusal>
     ensures { MatchResult result
-        (λ _. Added n start line.now jobs.old jobs.new)
-        (λ e. (e ≡ Memory) ⊎ (line_reading n start (vec_len jobs.old) line.now ≡ Err e)) }
+        (λ _. Added line.entry.number line.entry.start line.entry.text.now jobs.old jobs.new)
+        (λ e. (e ≡ Memory)
+        ⊎ (line_reading line.entry.number line.entry.start (vec_len jobs.old) line.entry.text.now ≡ Err e)) }
 {
-    match read_line(n, start, jobs.len(), line) {
-        Ok(Some(job)) => {
-            jobs.push(job)?;
-            Ok(())
-        }
-        Ok(None) => Ok(()),
-        Err(refusal) => Err(refusal),
+    if let Some(job) = line.read(jobs.len())? {
+        jobs.push(job)?;
     }
+    Ok(())
 }
 
 // The jobs of the file's lines, or the first refusal.
@@ -52,13 +48,8 @@ fn read_lines(heap: Global, file: &[u8]) -> Result<Vec<Job>, Refusal>
         (λ e. (e ≡ Memory) ⊎ (lines_reading 1 0 0 (lines file.now) ≡ Err e)) }
 {
     let mut jobs = Vec::new(heap);
-    let mut n = 1;
-    let mut start = 0;
-    while start < file.len() {
-        let end = scan(file, start, Kind::Byte(b'\n'));
-        add_line(&mut jobs, n, start, &file[start..end])?;
-        n += 1;
-        start = end + 1;
+    for line in Lines::of(file) {
+        add_line(&mut jobs, line)?;
     }
     Ok(jobs)
 }

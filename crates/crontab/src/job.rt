@@ -5,13 +5,13 @@ ghost use Rattle.crontab.specs.Job.{wild};
 use fields::FieldSet;
 
 // A command, as a part of the file: where it begins, counted from 0, and how many bytes it has.
-#[derive(Clone, Copy)]
+#[derive(Clone, Copy, PartialEq, Eq, Debug)]
 pub struct Command {
     pub at: usize,
     pub length: usize,
 }
 
-#[derive(Clone, Copy)]
+#[derive(Clone, Copy, PartialEq, Eq, Debug)]
 pub struct Job {
     // the number of its line in the file, from 1
     pub line: usize,

@@ -6,6 +6,7 @@ mod file;
 mod job;
 mod limits;
 mod line;
+mod lines;
 mod refusal;
 
 pub use file::{Crontab, read};

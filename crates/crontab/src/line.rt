@@ -1,8 +1,5 @@
 // One line of the file.
-ghost use Rattle.std.specs.Prelude.{◌≡◌, ◌+◌, ◌≤◌, length, Ok, Err, MatchResult};
-ghost use Rattle.crontab.specs.Limits.{longest_file, longest_line};
-ghost use Rattle.crontab.specs.Line.{command_after, field_after, field_at, job_reading, line_reading, words_before};
-ghost use Rattle.crontab.specs.Words.{end, idle, past};
+ghost use Rattle.std.specs.Prelude.{◌+◌, ◌^◌, ◌<◌, length};
 
 use crate::job::{Command, Job};
 use crate::limits::{LONGEST_LINE, MOST_JOBS};
@@ -10,125 +7,125 @@ use crate::refusal::{Place, Refusal};
 use fields::{Field, FieldSet, read_field};
 use scan::{Kind, scan};
 
-// The word that begins at or after place `at` of line `n`, as a field, and where it ends.
-fn field_after(f: Field, n: usize, s: &[u8], at: usize) -> Result<(FieldSet, usize), Refusal>
-    requires { (at ≤ length s.now) × (length s.now ≤ longest_line) }
-    ensures { MatchResult result
-        (λ p. (field_after f n s.now at ≡ Ok p.0)
-        × (p.1 ≡ end s.now at)
-        × (p.1 ≤ length s.now))
-        (λ e. field_after f n s.now at ≡ Err e) }
-{
-    let start = scan(s, at, Kind::Other);
-    if start >= s.len() {
-        return Err(Refusal::Missing(Place {
-            line: n,
-            column: s.len() + 1,
-        }));
-    }
-    let stop = scan(s, start, Kind::Blank);
-    match read_field(f, &s[start..stop]) {
-        Ok(set) => Ok((set, stop)),
-        Err(bad) => Err(Refusal::Element(
-            bad.fault,
-            Place {
-                line: n,
-                column: start + bad.at + 1,
-            },
-            f,
-        )),
-    }
+// A line by its number, from 1, the place where it begins in the file, and its bytes.
+#[derive(Clone, Copy)]
+pub(crate) struct Line<'a> {
+    pub number: usize,
+    pub start: usize,
+    pub text: &'a [u8],
+    // so that each place and column fits
+    pub ghost ends: { start + length text.now + 1 < 2 ^ 64 },
 }
 
-// A field of line `n`, from where the word before it ends.
-fn field_at(f: Field, n: usize, s: &[u8], at: usize) -> Result<(FieldSet, usize), Refusal>
-    requires { (at ≡ past s.now (words_before f)) × ((at ≤ length s.now) × (length s.now ≤ longest_line)) }
-    ensures { MatchResult result
-        (λ p. (field_at f n s.now ≡ Ok p.0)
-        × (p.1 ≡ past s.now (words_before f + 1))
-        × (p.1 ≤ length s.now))
-        (λ e. field_at f n s.now ≡ Err e) }
-{
-    field_after(f, n, s, at)
-}
+impl<'a> Line<'a> {
+    ghost use Rattle.std.specs.Prelude.{◌≡◌, ◌≤◌, Ok, Err, MatchResult};
+    ghost use Rattle.crontab.specs.Line.{command_at, field_at, job_reading, line_reading, words_before};
+    ghost use Rattle.crontab.specs.Line.{missing as missing_at, place as place_at};
+    ghost use Rattle.crontab.specs.Words.{begin, idle, past};
 
-// The command that begins at or after place `at` of line `n`, which begins at place `start` of the file.
-fn command_after(n: usize, start: usize, s: &[u8], at: usize) -> Result<Command, Refusal>
-    requires { (at ≤ length s.now) × ((length s.now ≤ longest_line) × (start ≤ longest_file)) }
-    ensures { result ≡ command_after n start s.now at }
-{
-    let begin = scan(s, at, Kind::Other);
-    if begin >= s.len() {
-        return Err(Refusal::Missing(Place {
-            line: n,
-            column: s.len() + 1,
-        }));
+    fn place(self, column: usize) -> Place
+        ensures { result ≡ place_at self.entry.number column }
+    {
+        Place {
+            line: self.number,
+            column,
+        }
     }
-    Ok(Command {
-        at: start + begin,
-        length: s.len() - begin,
-    })
-}
 
-// The job of line `n`, or its first refusal from the left.
-fn read_job(n: usize, start: usize, s: &[u8]) -> Result<Job, Refusal>
-    requires { (length s.now ≤ longest_line) × (start ≤ longest_file) }
-    ensures { result ≡ job_reading n start s.now }
-{
-    let (minute, at) = field_at(Field::Minute, n, s, 0)?;
-    let (hour, at) = field_at(Field::Hour, n, s, at)?;
-    let (day, at) = field_at(Field::Day, n, s, at)?;
-    let (month, at) = field_at(Field::Month, n, s, at)?;
-    let (weekday, at) = field_at(Field::Weekday, n, s, at)?;
-    let command = command_after(n, start, s, at)?;
-    Ok(Job {
-        line: n,
-        minute,
-        hour,
-        day,
-        month,
-        weekday,
-        command,
-    })
-}
+    // Where the word begins that stands at or after a place.
+    fn word(self, at: usize) -> Result<usize, Refusal>
+        ensures { MatchResult result
+            (λ i. (i ≡ begin self.entry.text.now at) × (i < length self.entry.text.now))
+            (λ e. (length self.entry.text.now ≤ begin self.entry.text.now at)
+            × (e ≡ missing_at self.entry.number self.entry.text.now)) }
+    {
+        let begin = scan(self.text, at, Kind::Other);
+        if begin >= self.text.len() {
+            return Err(Refusal::Missing(self.place(self.text.len() + 1)));
+        }
+        Ok(begin)
+    }
 
-// Has the line no job?
-fn is_idle(s: &[u8]) -> bool
-    ensures { result ≡ idle s.now }
-{
-    let begin = scan(s, 0, Kind::Other);
-    begin >= s.len() || s[begin] == b'#'
-}
+    // A field, from where the word before it ends, and where its own word ends.
+    #[tactic(auto, using(crate::proofs::Nth::past_next), unfolding(crate::specs::Line::field_at))]
+    fn field(self, f: Field, at: usize) -> Result<(FieldSet, usize), Refusal>
+        requires { at ≡ past self.text.now (words_before f) }
+        ensures { MatchResult result
+            (λ p. (field_at f self.entry.number self.entry.text.now ≡ Ok p.0)
+            × (p.1 ≡ past self.entry.text.now (words_before f + 1)))
+            (λ e. field_at f self.entry.number self.entry.text.now ≡ Err e) }
+    {
+        let start = self.word(at)?;
+        let stop = scan(self.text, start, Kind::Blank);
+        // A match: with map_err the proof of what comes after it did not close.
+        match read_field(f, &self.text[start..stop]) {
+            Ok(set) => Ok((set, stop)),
+            Err(bad) => {
+                let place = self.place(start + bad.at + 1);
+                Err(Refusal::Element(bad.fault, place, f))
+            }
+        }
+    }
 
-// The job of line `n`, none if it has no job, or its first refusal; `jobs` job lines came before it.
-pub(crate) fn read_line(
-    n: usize,
-    start: usize,
-    jobs: usize,
-    s: &[u8],
-) -> Result<Option<Job>, Refusal>
-    requires { start ≤ longest_file }
-    ensures { result ≡ line_reading n start jobs s.now }
-{
-    if s.len() > LONGEST_LINE {
-        return Err(Refusal::LineTooLong(Place {
-            line: n,
-            column: LONGEST_LINE + 1,
-        }));
+    // The command, from where the word before it ends.
+    fn command(self, at: usize) -> Result<Command, Refusal>
+        requires { at ≡ past self.text.now 5 }
+        ensures { result ≡ command_at self.entry.number self.entry.start self.entry.text.now }
+    {
+        let begin = self.word(at)?;
+        Ok(Command {
+            at: self.start + begin,
+            length: self.text.len() - begin,
+        })
     }
-    let forbidden = scan(s, 0, Kind::Forbidden);
-    if forbidden < s.len() {
-        return Err(Refusal::ForbiddenByte(Place {
-            line: n,
-            column: forbidden + 1,
-        }));
+
+    // The line's job, or its first refusal from the left.
+    #[tactic(auto, unfolding(crate::specs::Words::past))]
+    fn job(self) -> Result<Job, Refusal>
+        ensures { result ≡ job_reading self.entry.number self.entry.start self.entry.text.now }
+    {
+        let (minute, at) = self.field(Field::Minute, 0)?;
+        let (hour, at) = self.field(Field::Hour, at)?;
+        let (day, at) = self.field(Field::Day, at)?;
+        let (month, at) = self.field(Field::Month, at)?;
+        let (weekday, at) = self.field(Field::Weekday, at)?;
+        let command = self.command(at)?;
+        Ok(Job {
+            line: self.number,
+            minute,
+            hour,
+            day,
+            month,
+            weekday,
+            command,
+        })
     }
-    if is_idle(s) {
-        return Ok(None);
+
+    // Has the line no job?
+    fn is_idle(self) -> bool
+        ensures { result ≡ idle self.entry.text.now }
+    {
+        let begin = scan(self.text, 0, Kind::Other);
+        matches!(self.text.get(begin), None | Some(b'#'))
     }
-    if jobs >= MOST_JOBS {
-        return Err(Refusal::TooManyJobs(Place { line: n, column: 1 }));
+
+    // The line's job, none if it has none, or its first refusal; `jobs` job lines came before it.
+    pub(crate) fn read(self, jobs: usize) -> Result<Option<Job>, Refusal>
+        ensures { result ≡ line_reading self.entry.number self.entry.start jobs self.entry.text.now }
+    {
+        if self.text.len() > LONGEST_LINE {
+            return Err(Refusal::LineTooLong(self.place(LONGEST_LINE + 1)));
+        }
+        let forbidden = scan(self.text, 0, Kind::Forbidden);
+        if forbidden < self.text.len() {
+            return Err(Refusal::ForbiddenByte(self.place(forbidden + 1)));
+        }
+        if self.is_idle() {
+            return Ok(None);
+        }
+        if jobs >= MOST_JOBS {
+            return Err(Refusal::TooManyJobs(self.place(1)));
+        }
+        self.job().map(Some)
     }
-    let job = read_job(n, start, s)?;
-    Ok(Some(job))
 }

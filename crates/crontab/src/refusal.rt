@@ -1,17 +1,18 @@
 // Why a crontab is refused.
-ghost use Rattle.std.specs.Prelude.{◌≡◌};
-ghost use Rattle.crontab.specs.Refusal.{code_of, placed, placed_in};
+ghost use Rattle.std.specs.Prelude.{◌≡◌, Some};
+ghost use Rattle.crontab.specs.Refusal.{code_of, code_text};
 
 use fields::{Fault, Field};
+use std::fmt;
 
 // A place in the file, both counted from 1.
-#[derive(Clone, Copy)]
+#[derive(Clone, Copy, PartialEq, Eq, Debug)]
 pub struct Place {
     pub line: usize,
     pub column: usize,
 }
 
-#[derive(Clone, Copy)]
+#[derive(Clone, Copy, PartialEq, Eq, Debug)]
 pub enum Refusal {
     FileTooLong,
     LineTooLong(Place),
@@ -22,32 +23,27 @@ pub enum Refusal {
     Memory,
 }
 
-// The number of a refusal, and what stands beside it.
-#[derive(Clone, Copy)]
+// A refusal as it is written: by the number that the formats give it, and what stands beside it.
+#[derive(Clone, Copy, PartialEq, Eq, Debug)]
 pub struct Code {
     pub number: u8,
     pub place: Option<Place>,
     pub field: Option<u8>,
 }
 
-fn at_place(number: u8, place: Place) -> Option<Code>
-    ensures { result ≡ placed number place }
-{
-    Some(Code {
-        number,
-        place: Some(place),
-        field: None,
-    })
-}
+impl fmt::Display for Code {
+    ghost output = { λ c. Some (code_text c) };
 
-fn at_element(number: u8, place: Place, f: Field) -> Option<Code>
-    ensures { result ≡ placed_in number place f }
-{
-    Some(Code {
-        number,
-        place: Some(place),
-        field: Some(f.number()),
-    })
+    fn fmt<W: fmt::Write>(&self, f: &mut fmt::Formatter<W>) -> fmt::Result {
+        write!(f, "refused {}", self.number)?;
+        if let Some(Place { line, column }) = self.place {
+            write!(f, " {line} {column}")?;
+        }
+        if let Some(field) = self.field {
+            write!(f, " {field}")?;
+        }
+        Ok(())
+    }
 }
 
 impl Refusal {
@@ -55,20 +51,21 @@ impl Refusal {
     pub fn code(self) -> Option<Code>
         ensures { result ≡ code_of self }
     {
-        match self {
-            Refusal::FileTooLong => Some(Code {
-                number: 1,
-                place: None,
-                field: None,
-            }),
-            Refusal::LineTooLong(p) => at_place(2, p),
-            Refusal::ForbiddenByte(p) => at_place(3, p),
-            Refusal::TooManyJobs(p) => at_place(4, p),
-            Refusal::Element(Fault::NoSuchElement, p, f) => at_element(5, p, f),
-            Refusal::Element(Fault::OutOfRange, p, f) => at_element(6, p, f),
-            Refusal::Element(Fault::Turned, p, f) => at_element(7, p, f),
-            Refusal::Missing(p) => at_place(8, p),
-            Refusal::Memory => None,
-        }
+        let (number, place, field) = match self {
+            Refusal::FileTooLong => (1, None, None),
+            Refusal::LineTooLong(p) => (2, Some(p), None),
+            Refusal::ForbiddenByte(p) => (3, Some(p), None),
+            Refusal::TooManyJobs(p) => (4, Some(p), None),
+            Refusal::Element(Fault::NoSuchElement, p, f) => (5, Some(p), Some(f.number())),
+            Refusal::Element(Fault::OutOfRange, p, f) => (6, Some(p), Some(f.number())),
+            Refusal::Element(Fault::Turned, p, f) => (7, Some(p), Some(f.number())),
+            Refusal::Missing(p) => (8, Some(p), None),
+            Refusal::Memory => return None,
+        };
+        Some(Code {
+            number,
+            place,
+            field,
+        })
     }
 }

@@ -11,7 +11,6 @@ use Rattle.fields.specs.declared.element.Field.{Field}
 use Rattle.fields.specs.declared.element.Field.TheVariants.{Minute, Hour, Day, Month, Weekday}
 use Rattle.fields.specs.declared.reader.FieldSet.{FieldSet}
 use Rattle.field_grammar.specs.Grammar.{top}
-use Rattle.field_grammar.proofs.Numbers.{none_some}
 use Rattle.field_grammar.proofs.Values.{holds_in_range, holds_some}
 use Rattle.crontab.specs.declared.job.Job.{Job}
 use Rattle.crontab.specs.File.{lines}
@@ -65,7 +64,7 @@ onward start l ls j p = record {
 -- each job of lines is held by one of them
 job_in : {n start : ℕ} {ls : List (List ℕ)} {js : List Job} → JobsOf n start ls js → (k : ℕ) (j : Job) →
     slice_get js k ≡ Some j → JobIn start ls j
-job_in none k j e = absurd (none_some e)
+job_in none k j e = absurd cc
 job_in (idle {n} {start} {l} {ls} h t) k j e = onward start l ls j (job_in t k j e)
 job_in (job {n} {start} {l} {ls} {j = i} h p t) zero j e =
     let q : i ≡ j = cc in

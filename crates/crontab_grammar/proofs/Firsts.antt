@@ -1,7 +1,9 @@
 -- The first byte of a text that passes a test.
-use Rattle.std.proofs.Common.{◌≡◌, ℕ, zero, suc, ◌<◌, ◌≤◌, Bool, true, false, ◌⊎◌, List, [], ◌∷◌, ◌++◌, length, get_or, refl, ap, inl, inr, arith}
-use Rattle.std.proofs.lemmas.Bool.{both_ways, cases_lt}
+use Rattle.std.proofs.Common.{◌≡◌, ℕ, suc, ◌<◌, ◌≤◌, Bool, true, false, not, ◌⊎◌, List, [], ◌∷◌, ◌++◌, length, get_or, refl, ap, inl, inr, arith}
+use Rattle.std.proofs.lemmas.Bool.{both_ways, cases_lt, not-true, not-false}
+use Rattle.std.proofs.lemmas.List.Sums.{prefix_len_passes, prefix_len_stops}
 use Rattle.scan.specs.Scan.{before_first}
+use Rattle.scan.proofs.First.{first_position}
 
 -- no byte of a text passes a test
 abbrev pub Fails : (ℕ → Bool) → List ℕ → Type 0
@@ -21,25 +23,14 @@ first_joined p (x ∷ a) r f s =
 
 -- no byte before the first passes
 pub first_fails : (p : ℕ → Bool) (s : List ℕ) (i : ℕ) → i < before_first p s → p (get_or s i 0) ≡ false
-first_fails p [] i h = absurd (omega arith)
-first_fails p (x ∷ s) i h = go (p x) refl i (first_fails p s) h
-  where
-    go : (t : Bool) → p x ≡ t → (i : ℕ) → ((i : ℕ) → i < before_first p s → p (get_or s i 0) ≡ false) →
-        i < before_first p (x ∷ s) → p (get_or (x ∷ s) i 0) ≡ false
-    go true e i ih l = let k : i < 0 = rw e at l in absurd (omega arith)
-    go false e zero ih l = e
-    go false e (suc i) ih l = let k : suc i < suc (before_first p s) = rw e at l in ih i (omega arith)
+first_fails p s i h =
+    not-true (p (get_or s i 0)) (prefix_len_passes (λ x. not (p x)) s i 0 (rw first_position at h))
 
 -- the first passes, if there is one
 pub first_passes : (p : ℕ → Bool) (s : List ℕ) → before_first p s < length s → p (get_or s (before_first p s) 0) ≡ true
-first_passes p [] h = absurd (omega arith)
-first_passes p (x ∷ s) h = go (p x) refl (first_passes p s) h
-  where
-    go : (t : Bool) → p x ≡ t → (before_first p s < length s → p (get_or s (before_first p s) 0) ≡ true) →
-        before_first p (x ∷ s) < suc (length s) → p (get_or (x ∷ s) (before_first p (x ∷ s)) 0) ≡ true
-    go true e ih l = rw e e
-    go false e ih l =
-        let k : suc (before_first p s) < suc (length s) = rw e at l in rw e (ih (omega arith))
+first_passes p s h =
+    not-false (p (get_or s (before_first p s) 0))
+    (rw first_position (prefix_len_stops (λ x. not (p x)) s 0 (rw first_position at h)))
 
 -- a byte that passes does not stand before the first
 pub first_least : (p : ℕ → Bool) (s : List ℕ) (i : ℕ) → p (get_or s i 0) ≡ true → before_first p s ≤ i

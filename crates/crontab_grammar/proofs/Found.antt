@@ -6,7 +6,6 @@ use Rattle.std.specs.List.{slice_get}
 use Rattle.scan.specs.Scan.{is}
 use Rattle.scan.specs.declared.Kind.TheVariants.{Byte}
 use Rattle.scan.proofs.First.{first_le}
-use Rattle.field_grammar.proofs.Numbers.{none_some}
 use Rattle.crontab.specs.declared.job.Job.{Job}
 use Rattle.crontab.specs.File.{lines}
 use Rattle.crontab.proofs.Whole.{line_length, lines_step}
@@ -22,7 +21,7 @@ record Lies (s : List ℕ) (start : ℕ) (l : List ℕ) (ls : List (List ℕ)) :
 
 -- the text is not used up where there is a line
 some_left : (t l : List ℕ) (ls : List (List ℕ)) → lines t ≡ l ∷ ls → 0 < length t
-some_left [] l ls e = let z : ◌≡◌ {A = ℕ} 0 1 = cc in absurd (omega arith)
+some_left [] l ls e = absurd cc
 some_left (x ∷ t) l ls e = omega arith
 
 lies : (s : List ℕ) (start : ℕ) (l : List ℕ) (ls : List (List ℕ)) → lines (drop start s) ≡ l ∷ ls → Lies s start l ls
@@ -90,7 +89,7 @@ found s start l n j here inside p =
 -- each job of lines is found in the text that has them
 job_found : {n start : ℕ} {ls : List (List ℕ)} {js : List Job} (s : List ℕ) → JobsOf n start ls js →
     lines (drop start s) ≡ ls → (k : ℕ) (j : Job) → slice_get js k ≡ Some j → Found s j
-job_found s none e k j h = absurd (none_some h)
+job_found s none e k j h = absurd cc
 job_found s (idle {n} {start} {l} {ls} q t) e k j h = job_found s t (lies s start l ls e).after k j h
 job_found s (job {n} {start} {l} {ls} {j = i} q p t) e zero j h =
     let same : i ≡ j = cc in

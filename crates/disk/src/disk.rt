@@ -32,7 +32,8 @@ pub trait Disk {
     fn write(&mut self, block: usize, bytes: &[u8; BLOCK_BYTES])
         ensures count { count self.new ≡ count self.old }
         ensures latest { latest self.new ≡ after_write (count self.old) (latest self.old) block bytes.now }
-        ensures possible { (i : ℕ) (c : Content) → Among c (possible self.new i) → AtMost (count self.old) (possible self.old) block bytes.now i c };
+        ensures possible { (i : ℕ) (c : Content) → Among c (possible self.new i)
+            → AtMost (count self.old) (possible self.old) block bytes.now i c };
 
     // Makes every write so far last.
     fn sync(&mut self)

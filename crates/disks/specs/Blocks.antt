@@ -47,3 +47,10 @@ settled fate (Some b) landed = fared fate b landed
 -- what a cut makes of a block
 abbrev pub cut_block : Fate → Block → Block
 cut_block fate b = record { held = None; kept = settled fate b.held b.kept }
+
+-- what the block holds, and what it may hold once the power has failed
+abbrev pub latest_in : Block → Content
+latest_in b = content_of (shown_of b)
+
+abbrev pub possible_in : Block → List Content
+possible_in b = may_stand b.held b.kept

@@ -1,18 +1,28 @@
--- A disk on which each write lands, by what its blocks hold.
-use Rattle.std.specs.Prelude.{ℕ, List, [], ◌∷◌, vec_items, vec_len}
-use Rattle.disk.specs.Contents.{Content, torn, held}
-use Rattle.disks.specs.Fresh.{Fresh}
-use Rattle.disks.specs.Lookup.{at}
-use Rattle.disks.specs.declared.direct.DirectDisk.{DirectDisk}
+-- A block to which each write lands at once is its bytes.
+use Rattle.std.specs.Prelude.{◌≡◌, ℕ, List, [], ◌∷◌, replicate, refl}
+use Rattle.std.proofs.Common.{inl, inr, arith}
+use Rattle.std.proofs.lemmas.List.{same_lists}
+use Rattle.std.specs.Array.{AllZipBelow}
+use Rattle.disk.specs.Contents.{held}
+use Rattle.disk.specs.Limits.{block_bytes}
+use Rattle.disks.specs.Slots.{SlotLaws}
 
-abbrev pub direct_count : DirectDisk → ℕ
-direct_count d = vec_len d.blocks
+abbrev pub zeros : List ℕ
+zeros = replicate block_bytes 0
 
-abbrev pub direct_latest : DirectDisk → ℕ → Content
-direct_latest d = at held torn (vec_items d.blocks)
+pub direct_laws : SlotLaws held (λ b. held b ∷ []) zeros (λ b bytes. bytes) (λ fate b. b)
+direct_laws =
+    record {
+      includes = λ b. inl refl;
+      zeros = refl;
+      alone = refl;
+      lands = λ b bytes. refl;
+      at_most = λ b bytes c m. elim m [ inl e ↦ inr (inl e) | inr z ↦ absurd z ];
+      one = λ fate b. refl;
+      picked = λ fate b. inl refl;
+      synced = λ b. refl;
+    }
 
-abbrev pub direct_possible : DirectDisk → ℕ → List Content
-direct_possible d = λ i. direct_latest d i ∷ []
-
-abbrev pub FreshDirect : ℕ → DirectDisk → Type 0
-FreshDirect n d = Fresh n (direct_count d) (direct_latest d) (direct_possible d)
+-- a copy of a new block is a new block
+pub same_zeros : (ys : List ℕ) → AllZipBelow (λ x y. y ≡ x) zeros ys block_bytes → ys ≡ zeros
+same_zeros ys a = same_lists ys zeros a.long (λ k d h. a.at k d d (omega (arith, a.long)))

@@ -1,8 +1,10 @@
 pub mod Refusal
 pub mod Lookup
 pub mod Fresh
+pub mod Slots
 pub mod Blocks
 pub mod Direct
-pub mod Holding
+pub mod Memory
 pub mod LookupLemmas
+pub mod Lists
 pub mod Holds

@@ -1,5 +1,5 @@
 -- The number by which each case is refused, and what stands beside it.
-use Rattle.disks.specs.declared.refusal.Code.{Code}
+use Rattle.refusal_code.specs.declared.Code.{Code}
 use Rattle.disks.specs.declared.refusal.Refusal.{Refusal}
 use Rattle.disks.specs.declared.refusal.Refusal.TheVariants.{BlockCount}
 

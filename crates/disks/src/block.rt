@@ -1,11 +1,17 @@
-// A block of a disk that keeps writes back.
+// A disk that keeps writes back until a sync.
 ghost use Rattle.std.specs.Prelude.{◌≡◌};
-ghost use Rattle.disks.specs.Blocks.{blank_block, cut_block, held_back, shown_of};
+ghost use Rattle.disks.specs.Blocks.{blank_block, cut_block, fared, held_back, latest_in, possible_in};
+ghost use Rattle.disks.specs.Holds.{block_laws};
 
 use crate::fate::Fate;
+use crate::memory_disk::MemoryDisk;
+use crate::slot::Slot;
 use disk::BLOCK_BYTES;
 
-#[derive(Clone, Copy)]
+pub type HoldingDisk = MemoryDisk<Block>;
+
+// A block that keeps a write back.
+#[derive(Clone, Copy, Debug, PartialEq, Eq)]
 pub struct Block {
     // the write that is kept back, if there is one
     pub held: Option<[u8; BLOCK_BYTES]>,
@@ -14,50 +20,53 @@ pub struct Block {
 }
 
 impl Block {
-    // A new block: zero bytes, which have landed.
-    pub(crate) fn blank() -> Block
-        ensures { result ≡ blank_block }
+    // What has landed once these bytes, which were kept back, have fared so.
+    fn fared(self, fate: Fate, bytes: [u8; BLOCK_BYTES]) -> Option<[u8; BLOCK_BYTES]>
+        ensures { result ≡ fared fate bytes self.kept }
     {
+        match fate {
+            Fate::Old => self.kept,
+            Fate::New => Some(bytes),
+            Fate::Torn => None,
+        }
+    }
+}
+
+impl Slot for Block {
+    ghost latest = { latest_in };
+
+    ghost possible = { possible_in };
+
+    ghost blank = { blank_block };
+
+    ghost written = { held_back };
+
+    ghost settled = { cut_block };
+
+    ghost laws = { block_laws };
+
+    ghost copied = { λ y e. e };
+
+    fn blank() -> Block {
         Block {
             held: None,
             kept: Some([0; BLOCK_BYTES]),
         }
     }
 
-    // What a read sees.
-    pub(crate) fn shown(self) -> Option<[u8; BLOCK_BYTES]>
-        ensures { result ≡ shown_of self }
-    {
-        match self.held {
-            Some(bytes) => Some(bytes),
-            None => self.kept,
-        }
+    fn shown(&self) -> Option<[u8; BLOCK_BYTES]> {
+        self.held.or(self.kept)
     }
 
     // The write is kept back: what has landed stays.
-    pub(crate) fn written(self, bytes: [u8; BLOCK_BYTES]) -> Block
-        ensures { result ≡ held_back self bytes }
-    {
-        Block {
-            held: Some(bytes),
-            kept: self.kept,
-        }
+    fn put(&mut self, bytes: &[u8; BLOCK_BYTES]) {
+        self.held = Some(*bytes);
     }
 
-    // A write that is kept back fares so, and no write is kept back any more.
-    pub(crate) fn settled(self, fate: Fate) -> Block
-        ensures { result ≡ cut_block fate self }
-    {
-        match self.held {
-            None => self,
-            Some(bytes) => Block {
-                held: None,
-                kept: match fate {
-                    Fate::Old => self.kept,
-                    Fate::New => Some(bytes),
-                    Fate::Torn => None,
-                },
-            },
+    fn settle(&mut self, fate: Fate) {
+        if let Some(bytes) = self.held {
+            self.kept = self.fared(fate, bytes);
+            self.held = None;
         }
     }
 }

@@ -1,5 +1,5 @@
 // How a write that was kept back fares when the power fails.
-#[derive(Clone, Copy)]
+#[derive(Clone, Copy, Debug, PartialEq, Eq)]
 pub enum Fate {
     // the block holds what it held before the write
     Old,

@@ -2,15 +2,18 @@
 #![tactic(auto)]
 
 mod block;
+mod calls;
 mod direct;
-mod direct_calls;
 mod fate;
-mod holding;
-mod holding_calls;
+mod memory_disk;
 mod refusal;
 mod size;
+mod slot;
 
+pub use block::{Block, HoldingDisk};
 pub use direct::DirectDisk;
 pub use fate::Fate;
-pub use holding::HoldingDisk;
-pub use refusal::{Code, Refusal, Unmade};
+pub use memory_disk::MemoryDisk;
+pub use refusal::{Refusal, Unmade};
+pub use refusal_code::Code;
+pub use slot::Slot;

@@ -1,25 +1,30 @@
 // Why a disk was not made.
 ghost use Rattle.std.specs.Prelude.{◌≡◌};
 ghost use Rattle.disks.specs.Refusal.{code_of};
+ghost use Rattle.disks.specs.declared.refusal.Unmade.TheVariants.{NoMemory};
 
-#[derive(Clone, Copy)]
+use refusal_code::Code;
+use std::alloc::AllocError;
+
+#[derive(Clone, Copy, Debug, PartialEq, Eq)]
 pub enum Refusal {
     // a disk of this many blocks
     BlockCount(usize),
 }
 
-// The number of a refusal, and what stands beside it.
-#[derive(Clone, Copy)]
-pub struct Code {
-    pub number: u8,
-    pub beside: usize,
-}
-
-#[derive(Clone, Copy)]
+#[derive(Clone, Copy, Debug, PartialEq, Eq)]
 pub enum Unmade {
     Refused(Refusal),
     // not a refusal, so it has no number
     NoMemory,
+}
+
+impl From<AllocError> for Unmade {
+    ghost from_gives = { λ _ e. e ≡ NoMemory };
+
+    fn from(_e: AllocError) -> Unmade {
+        Unmade::NoMemory
+    }
 }
 
 impl Refusal {

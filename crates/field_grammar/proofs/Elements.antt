@@ -10,7 +10,7 @@ use Rattle.field_grammar.specs.Grammar.{star, star_step, name, range, range_step
 use Rattle.field_grammar.specs.Laws.{OneReading, ReadsElements}
 use Rattle.field_grammar.proofs.Cuts.{Above, above_without, without_join, has_none, has_joined, front_joined}
 use Rattle.field_grammar.proofs.Cuts.{back_joined, cut_whole}
-use Rattle.field_grammar.proofs.Numbers.{number_read, number_had, number_above, number_long, none_some}
+use Rattle.field_grammar.proofs.Numbers.{number_read, number_had, number_above, number_long}
 use Rattle.field_grammar.proofs.Names.{name_read, name_had, name_above, name_three}
 
 -- a text that does not begin with `*` is not a star
@@ -115,9 +115,9 @@ record Said (a b n : Option ℕ) (s : Span) : Type 0 where
   step_said : n ≡ Some s.step
 
 span_said : (a b n : Option ℕ) (s : Span) → span a b n ≡ Some s → Said a b n s
-span_said None b n s e = absurd (none_some e)
-span_said (Some a) None n s e = absurd (none_some e)
-span_said (Some a) (Some b) None s e = absurd (none_some e)
+span_said None b n s e = absurd cc
+span_said (Some a) None n s e = absurd cc
+span_said (Some a) (Some b) None s e = absurd cc
 span_said (Some a) (Some b) (Some n) s e =
     let q : spans a b n ≡ s = cc in
     record {
@@ -137,7 +137,7 @@ spans_said a b n s p q r =
 
 -- a star is `*`
 star_is : (s : List ℕ) → star? s ≡ true → s ≡ codes "*"
-star_is [] e = let z : ◌≡◌ {A = ℕ} 0 1 = cc in absurd (omega arith)
+star_is [] e = absurd cc
 star_is (x ∷ []) e = ap (λ (y : ℕ). y ∷ []) (eqb-true x 42 e)
 star_is (x ∷ y ∷ s) e =
     let p = and_parts (eqb (length (x ∷ y ∷ s)) 1) (eqb x 42) e in
@@ -217,7 +217,7 @@ module _ (f : Field) (e : List ℕ) (s : Span) where
       go : (u v : Bool) → star? (front 47 e) ≡ u → has 45 (front 47 e) ≡ v → Element f e s
       go true v d c = star_step_had t d (rw (t, d) at h)
       go false true d c = range_step_had t c (rw (t, d, c) at h)
-      go false false d c = absurd (none_some {A = Span} {x = s} (rw (t, d, c) at h))
+      go false false d c = absurd (cc (rw (t, d, c) at h))
 
 -- so is any
 pub element_had : (f : Field) (e : List ℕ) (s : Span) → element f e ≡ Some s → Element f e s

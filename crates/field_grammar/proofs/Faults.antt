@@ -10,7 +10,6 @@ use Rattle.fields.specs.Bytes.{split}
 use Rattle.field_grammar.specs.Grammar.{Wrong, WrongAt, place}
 use Rattle.fields.specs.Values.{fault_number}
 use Rattle.field_grammar.specs.Laws.{RefusesLeftmost, TakesFaultless}
-use Rattle.field_grammar.proofs.Numbers.{none_some}
 use Rattle.field_grammar.proofs.Parts.{split_parted, parted_split}
 use Rattle.field_grammar.proofs.Verdicts.{Least, Judged, verdict_judged, sound_right}
 
@@ -50,7 +49,7 @@ bad d k = record { fault = d; at = k }
 
 -- a refused element is the first wrong one
 bad_leftmost : (f : Field) (es : List (List ℕ)) (k : ℕ) (b : BadElement) → first_bad f k es ≡ Some b → Leftmost f es k b
-bad_leftmost f [] k b h = absurd (none_some h)
+bad_leftmost f [] k b h = absurd cc
 bad_leftmost f (e ∷ es) k b h =
     go (verdict f e) refl (verdict_judged f e) (bad_leftmost f es (k + (length e + 1)) b)
   where
@@ -98,7 +97,7 @@ none_wrong f (e ∷ es) k h =
         (first_bad f (k + (length e + 1)) es ≡ None → Faultless f es) → Faultless f (e ∷ es)
     go (Ok s) q j rest zero l d w = sound_right f e s j.0 j.1 d w
     go (Ok s) q j rest (suc i) l d w = rest (rw q at h) i (omega arith) d w
-    go (Err c) q j rest i l d w = none_some {A = BadElement} (sym (rw q at h))
+    go (Err c) q j rest i l d w = cc (sym (rw q at h))
 
 pub takes_faultless : TakesFaultless
 takes_faultless f s h at d w =

@@ -1,6 +1,6 @@
 -- A name is read exactly as the grammar has it.
 use Rattle.std.proofs.Common.{◌≡◌, ℕ, zero, suc, ◌+◌, ◌<◌, ◌≤◌, Bool, true, false, ◌&&◌, eqb, leb, List, [], ◌∷◌, map, length, get_or, Some, None, Option, sym, refl, ap, ◌∙◌, arith}
-use lib.ListN.{length-map}
+use Rattle.std.proofs.lemmas.List.{length-map}
 use Rattle.std.proofs.lemmas.List.{get_or-map}
 use Rattle.std.proofs.lemmas.Bool.{and_parts, eqb-true, eq-eqb, leb-true, cond_both}
 use Rattle.std.proofs.lemmas.Bool.Decides.{nat_tests, Decides-below_and}
@@ -10,7 +10,6 @@ use Rattle.fields.specs.Names.{lower, spells, named, name_in}
 use Rattle.fields.specs.Element.{low, name_of}
 use Rattle.field_grammar.specs.Grammar.{Name, names}
 use Rattle.field_grammar.proofs.Cuts.{Above}
-use Rattle.field_grammar.proofs.Numbers.{none_some}
 
 -- every number below n passes a test
 abbrev each_below : ℕ → (ℕ → Bool) → Bool
@@ -29,7 +28,7 @@ is (Some w) v = eqb w v
 
 -- then it is read as v
 is_some : (o : Option ℕ) (v : ℕ) → is o v ≡ true → o ≡ Some v
-is_some None v e = let z : ◌≡◌ {A = ℕ} 0 1 = cc in absurd (omega arith)
+is_some None v e = absurd cc
 is_some (Some w) v e = ap Some (eqb-true w v e)
 
 -- the i-th name n of the names ns has three letters in lower case, and is found at its own place
@@ -129,7 +128,7 @@ record Spelt (k : ℕ) (ns : List (List ℕ)) (a b c v : ℕ) : Type 0 where
 
 -- so it is where letters are found in the list
 named_spelt : (k : ℕ) (ns : List (List ℕ)) (a b c v : ℕ) → named k ns a b c ≡ Some v → Spelt k ns a b c v
-named_spelt k [] a b c v e = absurd (none_some e)
+named_spelt k [] a b c v e = absurd cc
 named_spelt k (n ∷ ns) a b c v e = go (spells n a b c) refl (named_spelt (k + 1) ns a b c v)
   where
     go : (t : Bool) → spells n a b c ≡ t → (named (k + 1) ns a b c ≡ Some v → Spelt (k + 1) ns a b c v) →
@@ -171,4 +170,4 @@ name_had f bs v e = go (eqb (length bs) 3) refl (sym (by_names f bs) ∙ e)
               (known f p.which p.listed).three p.spelling;
           meant = p.counted;
         }
-    go false s h = absurd (none_some {A = ℕ} {x = v} (rw s at h))
+    go false s h = absurd (cc (rw s at h))

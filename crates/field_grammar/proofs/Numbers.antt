@@ -42,13 +42,9 @@ number_above bs v (two a b h k e m) = subst Above (sym e) (two_above a b)
 pub number_long : (bs : List ℕ) → 3 ≤ length bs → number bs ≡ None
 number_long bs h = rw (ne_eqb (length bs) 1 (omega arith), ne_eqb (length bs) 2 (omega arith)) refl
 
--- what is not there has no value
-pub none_some : {A : Type 0} {x : A} → None ≡ Some x → ⊥
-none_some e = let z : ◌≡◌ {A = ℕ} 0 1 = cc in omega arith
-
 -- a number that is read is one of the grammar
 pub number_had : (bs : List ℕ) (v : ℕ) → number bs ≡ Some v → Number bs v
-number_had [] v e = absurd (none_some e)
+number_had [] v e = absurd cc
 number_had (x ∷ []) v e = go (digit? x) refl
   where
     go : (t : Bool) → digit? x ≡ t → Number (x ∷ []) v
@@ -59,7 +55,7 @@ number_had (x ∷ []) v e = go (digit? x) refl
         let m = p.1 in
         let k = p.2 in
         one p.0 m (ap (λ (y : ℕ). y ∷ []) k) (omega arith)
-    go false d = absurd (none_some {A = ℕ} {x = v} (rw d at e))
+    go false d = absurd (cc (rw d at e))
 number_had (x ∷ y ∷ []) v e = go (digit? x) (digit? y) refl refl
   where
     go : (t u : Bool) → digit? x ≡ t → digit? y ≡ u → Number (x ∷ y ∷ []) v
@@ -71,7 +67,7 @@ number_had (x ∷ y ∷ []) v e = go (digit? x) (digit? y) refl refl
         let k = p.2 in
         let l = o.2 in
         two p.0 o.0 p.1 o.1 (cc) (omega arith)
-    go true false d c = absurd (none_some {A = ℕ} {x = v} (rw (d, c) at e))
-    go false u d c = absurd (none_some {A = ℕ} {x = v} (rw d at e))
+    go true false d c = absurd (cc (rw (d, c) at e))
+    go false u d c = absurd (cc (rw d at e))
 number_had (x ∷ y ∷ z ∷ r) v e =
-    absurd (none_some (sym (number_long (x ∷ y ∷ z ∷ r) (omega arith)) ∙ e))
+    absurd (cc (sym (number_long (x ∷ y ∷ z ∷ r) (omega arith)) ∙ e))

@@ -12,7 +12,6 @@ use Rattle.field_grammar.specs.Grammar.{Element, Sound, Wrong}
 use Rattle.fields.specs.Values.{fault_number}
 use Rattle.field_grammar.specs.Grammar.{no_element, from_outside, to_outside, turned_round, no_step}
 use Rattle.field_grammar.specs.Laws.{TakesSound, RefusesWrong}
-use Rattle.field_grammar.proofs.Numbers.{none_some}
 use Rattle.field_grammar.proofs.Elements.{element_read, element_had, one_reading}
 
 -- no lesser number refuses the element than that of d
@@ -49,7 +48,7 @@ not_both f v i (inr o) = omega arith
 
 -- where there is no element, that is wrong, and has the least number
 judged_none : (f : Field) (e : List ℕ) → element f e ≡ None → Judged f e (Err NoSuchElement)
-judged_none f e h = (no_element (λ s p. none_some (sym h ∙ element_read f e s p)), least)
+judged_none f e h = (no_element (λ s p. cc (sym h ∙ element_read f e s p)), least)
   where
     least : Least f e NoSuchElement
     least NoSuchElement w = omega arith

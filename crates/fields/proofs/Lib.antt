@@ -1,5 +1,3 @@
-pub mod Cut
 pub mod Name
-pub mod Add
-pub mod Judge
+pub mod Fill
 pub mod Parts

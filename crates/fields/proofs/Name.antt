@@ -1,20 +1,60 @@
--- A name in a list of names.
-use Rattle.std.proofs.Common.{◌≡◌, ℕ, suc, ◌+◌, ◌<◌, ◌≤◌, true, false, List, [], length, get_or, drop, Some, None, Option, refl, ap, ◌∙◌, add-one, arith, drop_of_length-le, drop-cons, eq-eqb}
+-- A name in a list of names, by its place there.
+use Rattle.std.proofs.Common.{◌≡◌, ℕ, suc, ◌+◌, ◌<◌, Bool, true, false, cond, ◌&&◌, eqb, List, [], ◌∷◌, length, get_or, Some, Option, refl, ap, ◌∙◌, sym, arith, nat_eq, eq-eqb}
+use Rattle.std.proofs.Math.Bool.{and-true}
+use Rattle.std.specs.Char.{to_ascii_lowercase}
+use Rattle.std.specs.Cmp.Lexicographic.{pointwise}
+use Rattle.std.specs.List.{position, position_from}
+use Rattle.std.specs.Option.{option_map}
+use Rattle.std.proofs.lemmas.Bool.Decides.{nat_tests}
+use Rattle.std.proofs.lemmas.Iterator.Adapters.{position_from-zero}
 use Rattle.fields.specs.Names.{named, lower, name_in, spells}
 
-module _ (k : ℕ) (ns : List (List ℕ)) (i : ℕ) (h : i < length ns) (a b c : ℕ) where
-  pub named_go : spells (get_or ns i []) a b c ≡ false → named (k + i) (drop i ns) a b c ≡ named (k + (i + 1)) (drop (i + 1) ns) a b c
-  named_go e =
-      let q : k + i + 1 ≡ k + suc i = omega arith in
-      rw (add-one, drop-cons ns i [] h, e) (ap (λ (j : ℕ). named j (drop (suc i) ns) a b c) q)
+pub lower_same : (x : ℕ) → to_ascii_lowercase x ≡ lower x
+lower_same x = grind (arith, nat_tests)
 
-  pub named_stop : spells (get_or ns i []) a b c ≡ true → named (k + i) (drop i ns) a b c ≡ Some (k + i)
-  named_stop e = rw (drop-cons ns i [] h, e) refl
+-- each name of a list has three letters
+abbrev pub Threes : List (List ℕ) → Type 0
+Threes ns = (i : ℕ) → i < length ns → length (get_or ns i []) ≡ 3
 
-pub named_end : (k : ℕ) (ns : List (List ℕ)) (i : ℕ) → length ns ≤ i → (a b c : ℕ) → named (k + i) (drop i ns) a b c ≡ None
-named_end k ns i h a b c = rw (drop_of_length-le ns h) refl
+module _ (a b c : ℕ) where
+  -- is a name the word of these letters?
+  abbrev pub is_word : List ℕ → Bool
+  is_word n = pointwise nat_eq n (a ∷ b ∷ c ∷ [])
 
-pub named_at : (k : ℕ) (ns : List (List ℕ)) (e : List ℕ) (a b c : ℕ) (r : Option ℕ) →
-    r ≡ named k ns a b c → a ≡ lower (get_or e 0 0) → b ≡ lower (get_or e 1 0) → c ≡ lower (get_or e 2 0) →
-    length e ≡ 3 → r ≡ name_in k ns e
-named_at k ns e a b c r h x y z l = rw (eq-eqb (length e) 3 l) (h ∙ (λ i. named k ns (x i) (y i) (z i)))
+  spells_word : (n : List ℕ) → length n ≡ 3 → spells n a b c ≡ is_word n
+  spells_word [] h = absurd (omega arith)
+  spells_word (x ∷ []) h = absurd (omega arith)
+  spells_word (x ∷ y ∷ []) h = absurd (omega arith)
+  spells_word (x ∷ y ∷ z ∷ []) h = ap (λ (t : Bool). eqb x a && (eqb y b && t)) (sym (and-true (eqb z c)))
+  spells_word (x ∷ y ∷ z ∷ w ∷ ws) h = absurd (omega arith)
+
+  named_from : (k j : ℕ) (ns : List (List ℕ)) → Threes ns →
+      named (k + j) ns a b c ≡ option_map (λ i. k + i) (position_from is_word j ns)
+  named_from k j [] h = refl
+  named_from k j (n ∷ ns) h =
+      rw (spells_word n (h 0 (omega arith)))
+      (go (is_word n) (named_from k (j + 1) ns (λ i l. h (suc i) (omega arith))))
+    where
+      go : (t : Bool) → named (k + (j + 1)) ns a b c ≡ option_map (λ i. k + i) (position_from is_word (j + 1) ns) →
+          cond t (Some (k + j)) (named (k + j + 1) ns a b c)
+          ≡ option_map (λ i. k + i) (cond t (Some j) (position_from is_word (j + 1) ns))
+      go true ih = refl
+      go false ih = let q : k + j + 1 ≡ k + (j + 1) = omega arith in rw q ih
+
+  pub named_found : (k : ℕ) (ns : List (List ℕ)) → Threes ns →
+      named k ns a b c ≡ option_map (λ i. k + i) (position is_word ns)
+  named_found k ns h =
+      let q : k ≡ k + 0 = omega arith in
+      ap (λ (m : ℕ). named m ns a b c) q
+      ∙ named_from k 0 ns h
+      ∙ sym (ap (option_map (λ i. k + i)) (position_from-zero is_word ns))
+
+-- the number of a word, by where its lower case is found
+pub name_at : (k : ℕ) (ns : List (List ℕ)) (e : List ℕ) (x y z : ℕ) (o : Option ℕ) → Threes ns → length e ≡ 3 →
+    x ≡ to_ascii_lowercase (get_or e 0 0) → y ≡ to_ascii_lowercase (get_or e 1 0) → z ≡ to_ascii_lowercase (get_or e 2 0) →
+    o ≡ position (is_word x y z) ns → option_map (λ i. k + i) o ≡ name_in k ns e
+name_at k ns e x y z o h l p q r f =
+    ap (option_map (λ i. k + i)) f
+    ∙ sym (named_found x y z k ns h)
+    ∙ (λ i. named k ns ((p ∙ lower_same (get_or e 0 0)) i) ((q ∙ lower_same (get_or e 1 0)) i) ((r ∙ lower_same (get_or e 2 0)) i))
+    ∙ rw (eq-eqb (length e) 3 l) refl

@@ -1,13 +1,13 @@
 -- A field's elements, one after the other.
-use Rattle.std.proofs.Common.{◌≡◌, ℕ, suc, ◌+◌, ◌<◌, Bool, true, false, cond, ◌&&◌, ◌||◌, eqb, List, [], ◌∷◌, length, Ok, Result, sym, refl, ap, ◌∙◌, arith, lt-ltb}
-use lib.Dec.{leb-suc-suc}
+use Rattle.std.proofs.Common.{◌≡◌, ℕ, suc, ◌+◌, ◌<◌, Bool, true, false, cond, ◌&&◌, ◌||◌, eqb, List, [], ◌∷◌, length, Some, None, Ok, Err, sym, refl, ap, ◌∙◌, arith, lt-ltb, ltb-true, ltb-false, take_all, length-drop}
+use Rattle.std.proofs.Math.Bool.{or_assoc, or_comm}
+use Rattle.std.proofs.Math.Dec.{leb-suc-suc}
 use Rattle.fields.specs.declared.element.Span.{Span}
 use Rattle.fields.specs.declared.element.Field.{Field}
 use Rattle.fields.specs.declared.element.Field.TheVariants.{Minute, Hour, Day, Month, Weekday}
-use Rattle.fields.specs.declared.reader.Fault.{Fault}
-use Rattle.fields.specs.Bytes.{find_in, has, front, back}
-use Rattle.fields.specs.Values.{standing, verdict, after, taken, takes, first_bad, any_takes}
-use Rattle.fields.specs.Bytes.{split}
+use Rattle.fields.specs.declared.reader.BadElement.{BadElement}
+use Rattle.fields.specs.Bytes.{find_in, has, front, back, split}
+use Rattle.fields.specs.Values.{standing, verdict, after, taken, takes, first_bad, any_takes, field_bad, field_set, field_reading, unless}
 
 -- the first part, and the parts of the rest
 pub split_step : (b : ℕ) (s : List ℕ) → split b s ≡ front b s ∷ cond (has b s) (split b (back b s)) []
@@ -19,59 +19,59 @@ split_step b (x ∷ xs) = go (eqb x b) refl (split_step b xs)
     go true e ih = let p : 0 < suc (length xs) = omega arith in rw (e, lt-ltb 0 (suc (length xs)) p) refl
     go false e ih = rw (e, leb-suc-suc (suc (find_in b xs)) (length xs), ih) refl
 
--- what is left after the first part
-abbrev pub left : List ℕ → List (List ℕ)
-left s = cond (has 44 s) (split 44 (back 44 s)) []
+-- where there is a comma, what stands before it and the parts of what stands after it
+pub split_more : (s e m : List ℕ) → has 44 s ≡ true → e ≡ front 44 s → m ≡ back 44 s → split 44 s ≡ e ∷ split 44 m
+split_more s e m h p q =
+    split_step 44 s
+    ∙ ap (λ (b : Bool). front 44 s ∷ cond b (split 44 (back 44 s)) []) h
+    ∙ (λ i. sym p i ∷ split 44 (sym q i))
 
-pub left_some : (s m : List ℕ) → has 44 s ≡ true → m ≡ back 44 s → left s ≡ split 44 m
-left_some s m h e = ap (λ (b : Bool). cond b (split 44 (back 44 s)) []) h ∙ ap (split 44) (sym e)
+-- and else the whole
+pub split_last : (s : List ℕ) → has 44 s ≡ false → split 44 s ≡ s ∷ []
+split_last s h =
+    split_step 44 s
+    ∙ ap (λ (b : Bool). front 44 s ∷ cond b (split 44 (back 44 s)) []) h
+    ∙ ap (λ (l : List ℕ). l ∷ []) (take_all (find_in 44 s) s (ltb-false (find_in 44 s) (length s) h))
 
-pub left_none : (s : List ℕ) → has 44 s ≡ false → left s ≡ []
-left_none s h = ap (λ (b : Bool). cond b (split 44 (back 44 s)) []) h
+-- the first element e of a field's bytes s, and those after it
+module _ (f : Field) (s e : List ℕ) (es : List (List ℕ)) (parts : split 44 s ≡ e ∷ es) where
+  -- one that is refused is the first bad one
+  pub bad_here : (at : ℕ) (b : BadElement) → (verdict f e ≡ Err b.fault) × (b.at ≡ at) → first_bad f at (split 44 s) ≡ Some b
+  bad_here at b (q, w) =
+      ap (first_bad f at) parts
+      ∙ ap (λ v. after v at (first_bad f (at + (length e + 1)) es)) q
+      ∙ (λ i. Some (record { fault = b.fault; at = sym w i }))
 
-module _ (f : Field) (s e : List ℕ) (v : Result Span Fault) (p : e ≡ front 44 s) (q : v ≡ verdict f e) where
-  here : verdict f (front 44 s) ≡ v
-  here = ap (verdict f) (sym p) ∙ sym q
-
-  pub bad_step : (at : ℕ) → first_bad f at (split 44 s) ≡ after v at (first_bad f (at + (length e + 1)) (left s))
-  bad_step at =
-      ap (first_bad f at) (split_step 44 s)
-      ∙ ap (λ (x : Result Span Fault). after x at (first_bad f (at + (length (front 44 s) + 1)) (left s))) here
-      ∙ ap (λ (x : List ℕ). after v at (first_bad f (at + (length x + 1)) (left s))) (sym p)
-
-  pub any_step : (k : ℕ) → any_takes f (split 44 s) k ≡ (taken v k || any_takes f (left s) k)
-  any_step k =
-      ap (λ (x : List (List ℕ)). any_takes f x k) (split_step 44 s)
-      ∙ ap (λ (x : Result Span Fault). taken x k || any_takes f (left s) k) here
-
-shuffle : (t a c : Bool) → ((t || a) || c) ≡ (a || (t || c))
-shuffle true true c = refl
-shuffle true false c = refl
-shuffle false true c = refl
-shuffle false false c = refl
-
-or_false : (a : Bool) → (a || false) ≡ a
-or_false true = refl
-or_false false = refl
-
-module _ (f : Field) (s e : List ℕ) (x : Span) (p : e ≡ front 44 s) (q : Ok x ≡ verdict f e) (ms : List (List ℕ)) (r : left s ≡ ms) where
-  -- a taken element is passed over by the search for a bad one
-  pub bad_next : (at to : ℕ) → at + (length e + 1) ≡ to → first_bad f at (split 44 s) ≡ first_bad f to ms
-  bad_next at to w = bad_step f s e (Ok x) p q at ∙ ap (λ (n : ℕ). first_bad f n (left s)) w ∙ ap (first_bad f to) r
+  -- one that is taken is passed over by the search for a bad one
+  pub bad_next : (at to : ℕ) (x : Span) → verdict f e ≡ Ok x → at + (length e + 1) ≡ to → first_bad f at (split 44 s) ≡ first_bad f to es
+  bad_next at to x q w =
+      ap (first_bad f at) parts
+      ∙ ap (λ v. after v at (first_bad f (at + (length e + 1)) es)) q
+      ∙ ap (λ (n : ℕ). first_bad f n es) w
 
   -- and its numbers join those of the elements before
-  pub any_next : (k : ℕ) (new old all : Bool) → new ≡ (takes x k || old) → (old || any_takes f (split 44 s) k) ≡ all
-      → (new || any_takes f ms k) ≡ all
-  any_next k new old all n g =
-      ap (λ (b : Bool). b || any_takes f ms k) n
-      ∙ shuffle (takes x k) old (any_takes f ms k)
-      ∙ ap (λ (b : Bool). old || b) (sym (any_step f s e (Ok x) p q k ∙ ap (λ (l : List (List ℕ)). takes x k || any_takes f l k) r))
+  pub any_next : (k : ℕ) (x : Span) (new old all : Bool) → verdict f e ≡ Ok x → new ≡ (takes x k || old)
+      → (old || any_takes f (split 44 s) k) ≡ all → (new || any_takes f es k) ≡ all
+  any_next k x new old all q n g =
+      ap (λ (b : Bool). b || any_takes f es k) n
+      ∙ ap (λ (b : Bool). b || any_takes f es k) (or_comm (takes x k) old)
+      ∙ or_assoc old (takes x k) (any_takes f es k)
+      ∙ ap (λ (b : Bool). old || b) (sym (ap (λ (l : List (List ℕ)). any_takes f l k) parts ∙ ap (λ v. taken v k || any_takes f es k) q))
       ∙ g
 
-  pub any_last : ms ≡ [] → (k : ℕ) (new old all : Bool) → new ≡ (takes x k || old) → (old || any_takes f (split 44 s) k) ≡ all
-      → new ≡ all
-  any_last z k new old all n g =
-      sym (or_false new) ∙ ap (λ (l : List (List ℕ)). new || any_takes f l k) (sym z) ∙ any_next k new old all n g
+-- what follows the first comma is shorter by what stands before it and the comma
+pub back_length : (s m : List ℕ) → has 44 s ≡ true → m ≡ back 44 s → find_in 44 s + 1 + length m ≡ length s
+back_length s m h q =
+    let le : find_in 44 s < length s = ltb-true (find_in 44 s) (length s) h in
+    rw q (simp length-drop (omega arith))
+
+pub refused : (f : Field) (s : List ℕ) (b : BadElement) → field_bad f s ≡ Some b → Err b ≡ field_reading f s
+unfolding field_reading
+refused f s b e = sym (ap (λ o. unless o (field_set f s)) e)
+
+pub accepted : (f : Field) (s : List ℕ) → field_bad f s ≡ None → Ok (field_set f s) ≡ field_reading f s
+unfolding field_reading
+accepted f s e = sym (ap (λ o. unless o (field_set f s)) e)
 
 -- the values hang only on the numbers below 64
 pub standing_same : (f : Field) (t u : ℕ → Bool) → ((n : ℕ) → n < 64 → t n ≡ u n) → (v : ℕ) → v < 64 → standing f t v ≡ standing f u v

@@ -6,7 +6,7 @@ use Rattle.fields.specs.declared.element.Span.{Span}
 use Rattle.fields.specs.declared.element.Field.{Field}
 use Rattle.fields.specs.declared.element.Field.TheVariants.{Minute, Hour, Day, Month, Weekday}
 use Rattle.fields.specs.declared.element.Element.{Element}
-use Rattle.fields.specs.declared.element.Element.TheVariants.{Star, Each, Single, Range, RangeEach, Unknown}
+use Rattle.fields.specs.declared.element.Element.TheVariants.{Star, Each, Single, Range, RangeEach}
 
 -- the field's number in its line
 abbrev pub field_number : Field → ℕ
@@ -46,7 +46,10 @@ written (Each n) = each (piece n)
 written (Single w) = single (piece w)
 written (Range a b) = range (piece a) (piece b)
 written (RangeEach a b n) = range_each (piece a) (piece b) (piece n)
-written Unknown = unknown
+
+abbrev pub form_of : Option Element → Form
+form_of (Some e) = written e
+form_of None = unknown
 
 -- 42 is `*`, 45 is `-`, 47 is `/`
 abbrev pub star? : List ℕ → Bool

@@ -1,12 +1,14 @@
 // The elements of a field, as parts of the field's own bytes.
-ghost use Rattle.std.specs.Prelude.{◌≡◌, ◌+◌, ◌^◌, ◌<◌, length};
+ghost use Rattle.std.specs.Prelude.{◌≡◌};
 ghost use Rattle.fields.specs.Bytes.{piece};
-ghost use Rattle.fields.specs.Element.{field_number, form, high as high_of, low as low_of, span as span_of, spanned, star?, value_of, written};
+ghost use Rattle.fields.specs.Element.{element, form, form_of, spanned, star?, value_of, written};
+ghost use Rattle.fields.specs.Element.{field_number, high as high_of, low as low_of};
 
-use crate::bytes::{Part, cut, number};
+use crate::bytes::Part;
 use crate::names::{MONTHS, WEEKDAYS, name_number};
+use crate::number::number;
 
-#[derive(Clone, Copy)]
+#[derive(Clone, Copy, PartialEq, Eq, Debug)]
 pub enum Field {
     Minute,
     Hour,
@@ -16,7 +18,7 @@ pub enum Field {
 }
 
 impl Field {
-    // The field's number in its line, from 1.
+    // The field's number in its line, from 1, as refusals are written with it.
     pub fn number(self) -> u8
         ensures { result ≡ field_number self }
     {
@@ -55,17 +57,16 @@ impl Field {
 
 // An element, by the parts of the field that it is written with.
 #[derive(Clone, Copy)]
-pub enum Element<'a> {
+pub(crate) enum Element<'a> {
     Star,
     Each(Part<'a>),
     Single(Part<'a>),
     Range(Part<'a>, Part<'a>),
     RangeEach(Part<'a>, Part<'a>, Part<'a>),
-    Unknown,
 }
 
 // The numbers from `from` to `to`, each `step`-th.
-#[derive(Clone, Copy)]
+#[derive(Clone, Copy, PartialEq, Eq, Debug)]
 pub struct Span {
     pub from: u8,
     pub to: u8,
@@ -75,75 +76,66 @@ pub struct Span {
 fn is_star(e: &[u8]) -> bool
     ensures { result ≡ star? e.now }
 {
-    match e {
-        [b'*'] => true,
-        _ => false,
-    }
-}
-
-// The form in which an element is written.
-pub(crate) fn shape(e: Part<'_>) -> Element<'_>
-    requires { e.at + length e.text.now < 2 ^ 64 }
-    ensures { written result ≡ form (piece e.entry) }
-{
-    match cut(e, b'/') {
-        Some((range, step)) => {
-            if is_star(range.text) {
-                return Element::Each(step);
-            }
-            match cut(range, b'-') {
-                Some((from, to)) => Element::RangeEach(from, to, step),
-                None => Element::Unknown,
-            }
-        }
-        None => {
-            if is_star(e.text) {
-                return Element::Star;
-            }
-            match cut(e, b'-') {
-                Some((from, to)) => Element::Range(from, to),
-                None => Element::Single(e),
-            }
-        }
-    }
+    matches!(e, [b'*'])
 }
 
 // A number, or a name where the field has names.
 fn value(f: Field, w: &[u8]) -> Option<u8>
     ensures { result ≡ value_of f w.now }
 {
-    if let Some(n) = number(w) {
-        return Some(n);
-    }
-    match f {
+    number(w).or_else(|| match f {
         Field::Month => name_number(&MONTHS, 1, w),
         Field::Weekday => name_number(&WEEKDAYS, 0, w),
         _ => None,
-    }
+    })
 }
 
-fn make_span(from: Option<u8>, to: Option<u8>, step: Option<u8>) -> Option<Span>
-    ensures { result ≡ span_of from to step }
-{
-    match (from, to, step) {
-        (Some(from), Some(to), Some(step)) => Some(Span { from, to, step }),
-        _ => None,
-    }
-}
-
-// The numbers that an element's parts say.
-pub(crate) fn read_span(f: Field, e: Element<'_>) -> Option<Span>
-    ensures { result ≡ spanned f (written e.entry) }
-{
-    match e {
-        Element::Star => make_span(Some(f.low()), Some(f.high()), Some(1)),
-        Element::Each(n) => make_span(Some(f.low()), Some(f.high()), number(n.text)),
-        Element::Single(w) => {
-            let v = value(f, w.text);
-            make_span(v, v, Some(1))
+impl<'a> Element<'a> {
+    // The form in which an element is written, if it has one.
+    pub(crate) fn read(e: Part<'a>) -> Option<Element<'a>>
+        ensures { form_of result ≡ form (piece e.entry) }
+    {
+        match e.cut(b'/') {
+            Some((range, step)) => {
+                if is_star(range.text) {
+                    return Some(Element::Each(step));
+                }
+                let (from, to) = range.cut(b'-')?;
+                Some(Element::RangeEach(from, to, step))
+            }
+            None => {
+                if is_star(e.text) {
+                    return Some(Element::Star);
+                }
+                match e.cut(b'-') {
+                    Some((from, to)) => Some(Element::Range(from, to)),
+                    None => Some(Element::Single(e)),
+                }
+            }
         }
-        Element::Range(a, b) => make_span(number(a.text), number(b.text), Some(1)),
-        Element::RangeEach(a, b, n) => make_span(number(a.text), number(b.text), number(n.text)),
-        Element::Unknown => None,
     }
+
+    // The numbers that its parts say.
+    pub(crate) fn span(self, f: Field) -> Option<Span>
+        ensures { result ≡ spanned f (written self.entry) }
+    {
+        let (from, to, step) = match self {
+            Element::Star => (f.low(), f.high(), 1),
+            Element::Each(n) => (f.low(), f.high(), number(n.text)?),
+            Element::Single(w) => {
+                let v = value(f, w.text)?;
+                (v, v, 1)
+            }
+            Element::Range(a, b) => (number(a.text)?, number(b.text)?, 1),
+            Element::RangeEach(a, b, n) => (number(a.text)?, number(b.text)?, number(n.text)?),
+        };
+        Some(Span { from, to, step })
+    }
+}
+
+// The numbers that an element says in a field, if all its parts can be read.
+pub(crate) fn read_span(f: Field, e: Part<'_>) -> Option<Span>
+    ensures { result ≡ element f e.entry.text.now }
+{
+    Element::read(e)?.span(f)
 }

@@ -3,6 +3,7 @@
 mod bytes;
 mod element;
 mod names;
+mod number;
 mod reader;
 mod values;
 

@@ -1,54 +1,21 @@
 // The names of months and weekdays: their first three letters, in either case.
-ghost use Rattle.std.specs.Prelude.{◌≡◌, ◌+◌, ◌<◌, length};
-ghost use Rattle.fields.specs.Names.{lower as lower_of, name_in, named, spells};
+ghost use Rattle.std.specs.Prelude.{◌≡◌, ◌+◌, ◌<◌, length, position, nat_eq};
+ghost use Rattle.std.specs.Cmp.Lexicographic.{pointwise};
+ghost use Rattle.fields.specs.Names.{name_in};
 
 pub(crate) const MONTHS: [[u8; 3]; 12] = [
-    [b'j', b'a', b'n'],
-    [b'f', b'e', b'b'],
-    [b'm', b'a', b'r'],
-    [b'a', b'p', b'r'],
-    [b'm', b'a', b'y'],
-    [b'j', b'u', b'n'],
-    [b'j', b'u', b'l'],
-    [b'a', b'u', b'g'],
-    [b's', b'e', b'p'],
-    [b'o', b'c', b't'],
-    [b'n', b'o', b'v'],
-    [b'd', b'e', b'c'],
+    *b"jan", *b"feb", *b"mar", *b"apr", *b"may", *b"jun", *b"jul", *b"aug", *b"sep", *b"oct",
+    *b"nov", *b"dec",
 ];
 
 pub(crate) const WEEKDAYS: [[u8; 3]; 7] = [
-    [b's', b'u', b'n'],
-    [b'm', b'o', b'n'],
-    [b't', b'u', b'e'],
-    [b'w', b'e', b'd'],
-    [b't', b'h', b'u'],
-    [b'f', b'r', b'i'],
-    [b's', b'a', b't'],
+    *b"sun", *b"mon", *b"tue", *b"wed", *b"thu", *b"fri", *b"sat",
 ];
 
-fn lower(x: u8) -> u8
-    ensures { result ≡ lower_of x }
+fn find_name(names: &[[u8; 3]], word: [u8; 3]) -> Option<usize>
+    ensures { result ≡ position (λ n. pointwise nat_eq n word) names.now }
 {
-    if x >= b'A' && x <= b'Z' { x + 32 } else { x }
-}
-
-fn is_spelt(name: &[u8; 3], a: u8, b: u8, c: u8) -> bool
-    ensures { result ≡ spells name.now a b c }
-{
-    name[0] == a && name[1] == b && name[2] == c
-}
-
-fn find_name(names: &[[u8; 3]], first: u8, a: u8, b: u8, c: u8) -> Option<u8>
-    requires { first + length names.now < 256 }
-    ensures { result ≡ named first names.now a b c }
-{
-    for (i, name) in names.iter().enumerate() {
-        if is_spelt(name, a, b, c) {
-            return Some(first + i as u8);
-        }
-    }
-    None
+    names.iter().position(|name| *name == word)
 }
 
 // The number of a name in a list that counts from `first`.
@@ -56,8 +23,14 @@ pub(crate) fn name_number(names: &[[u8; 3]], first: u8, e: &[u8]) -> Option<u8>
     requires { first + length names.now < 256 }
     ensures { result ≡ name_in first names.now e.now }
 {
-    match e {
-        [a, b, c] => find_name(names, first, lower(*a), lower(*b), lower(*c)),
-        _ => None,
-    }
+    let [a, b, c] = e else {
+        return None;
+    };
+    let word = [
+        a.to_ascii_lowercase(),
+        b.to_ascii_lowercase(),
+        c.to_ascii_lowercase(),
+    ];
+    let i = find_name(names, word)?;
+    Some(first + i as u8)
 }

@@ -1,6 +1,8 @@
 -- The laws of number-bytes, by which all else goes.
-use Rattle.std.proofs.Common.{◌≡◌, ℕ, zero, suc, ◌+◌, ◌-◌, ◌*◌, ◌/◌, ◌%◌, ◌^◌, ◌<◌, ◌≤◌, ◌⊎◌, List, [], ◌∷◌, ◌++◌, length, Some, None, sym, refl, ap, ◌∙◌, inl, inr, ⊎_elim, arith}
-use Rattle.std.proofs.lemmas.Bool.{cases_lt, lt-ltb, le-ltb}
+use Rattle.std.proofs.Common.{◌≡◌, leb, ℕ, zero, suc, ◌+◌, ◌-◌, ◌*◌, ◌/◌, ◌%◌, ◌^◌, ◌<◌, ◌≤◌, ◌⊎◌, List, [], ◌∷◌, ◌++◌, length, Some, None, sym, refl, ap, ◌∙◌, inl, inr, ⊎_elim, arith}
+use Rattle.std.proofs.lemmas.Bool.{cases_lt, lt-ltb, le-ltb, le-leb, lt-leb}
+use Rattle.std.specs.Bool.{then_some}
+use Rattle.std.specs.Option.{option_map}
 use Rattle.leb.specs.Number.{number_by, number_bytes, Reads}
 
 by_low : (f n : ℕ) → n < 128 → number_by f n ≡ n ∷ []
@@ -76,12 +78,21 @@ pub none_empty : (max : ℕ) (s : List ℕ) → length s ≡ 0 → Reads (AtMost
 none_empty max s z n t h e = never_empty n t (ap length (sym e) ∙ z)
 
 module _ (max : ℕ) (s : List ℕ) (b : ℕ) (rest : List ℕ) (cut : s ≡ b ∷ rest) where
-  pub some_low : b < 128 → b ≤ max → Reads (AtMost max) number_bytes s (Some (b, rest))
+  some_low : b < 128 → b ≤ max → Reads (AtMost max) number_bytes s (Some (b, rest))
   some_low l h = (h, cut ∙ sym (ap (λ x. x ++ rest) (number_low b l)))
 
-  pub none_low : b < 128 → max < b → Reads (AtMost max) number_bytes s None
+  none_low : b < 128 → max < b → Reads (AtMost max) number_bytes s None
   none_low l h n t k e =
       ⊎_elim (λ w. omega arith) (λ w. omega arith) (front b rest n t (sym cut ∙ e))
+
+  -- the number is the byte, if it is at most max; r is the rest, read as x
+  pub one_low :
+      {R : Type 0} (r : R) (x : R → List ℕ) → x r ≡ rest → b < 128
+      → Reads (AtMost max) number_bytes s (option_map {T = ℕ × R} (λ p. (p.0, x p.1)) (then_some (leb b max) (b, r)))
+  one_low r x is l =
+      ⊎_elim (λ (w : max < b). rw lt-leb (none_low l w))
+      (λ (w : b ≤ max). rw (le-leb, is) (some_low l w))
+      (cases_lt max b)
 
   pub none_more : 128 ≤ b → max < 128 → Reads (AtMost max) number_bytes s None
   none_more l h n t k e =

@@ -1,6 +1,6 @@
--- A block that is written up to a place and zero from there on.
-use Rattle.std.proofs.Common.{◌≡◌, ℕ, zero, suc, ◌+◌, ◌-◌, ◌/◌, ◌%◌, ◌<◌, ◌≤◌, List, [], ◌∷◌, ◌++◌, length, take, drop, set, replicate, sym, refl, ap, ◌∙◌, append_assoc, arith}
-use Rattle.std.proofs.lemmas.List.{drop-set-lt, drop-drop, drop-replicate, take-append-drop, take_all, take_at, take_more_set, append-nil, length-append, length-take, length-take-le}
+-- A block that is written from its start on.
+use Rattle.std.proofs.Common.{◌≡◌, ℕ, zero, suc, ◌+◌, ◌/◌, ◌%◌, ◌<◌, ◌≤◌, List, [], ◌∷◌, ◌++◌, length, take, drop, replicate, sym, refl, ap, ◌∙◌, append_assoc, arith}
+use Rattle.std.proofs.lemmas.List.{drop-replicate, take_all, take_at, append-nil, length-append}
 use Rattle.leb.specs.Block.{Wrote, filled}
 use Rattle.leb.specs.Limits.{block}
 use Rattle.leb.specs.Number.{number_bytes}
@@ -8,33 +8,17 @@ use Rattle.leb.specs.Written.{written}
 use Rattle.leb.specs.declared.writer.Writer.{Writer}
 use Rattle.leb.proofs.Numbers.{number_low, number_high}
 
-pub clear_more :
-    (bytes : List ℕ) (at b n : ℕ)
-    → drop at bytes ≡ replicate (n - at) 0 → drop (at + 1) (set bytes at b) ≡ replicate (n - (at + 1)) 0
-clear_more bytes at b n e =
-    drop-set-lt (at + 1) bytes at b (omega arith) ∙ sym (drop-drop 1 at bytes) ∙ ap (drop 1) e ∙ drop-replicate 1 (n - at) 0
-    ∙ (let q : n - at - 1 ≡ n - (at + 1) = omega arith in ap (λ k. replicate k 0) q)
-
-pub whole :
-    (bytes : List ℕ) (at : ℕ) → length bytes ≡ block → at ≤ block → drop at bytes ≡ replicate (block - at) 0
-    → bytes ≡ filled (take at bytes)
-whole bytes at l h e =
-    sym (take-append-drop at bytes) ∙ ap (λ t. take at bytes ++ t) e
-    ∙ ap (λ n. take at bytes ++ replicate (block - n) 0) (sym (length-take-le at bytes (omega arith)))
-
 -- one byte, where there is room and where there is none
-pub wrote_byte :
-    (bytes : List ℕ) (at b : ℕ) → length bytes ≡ block → at < block
-    → Wrote (take at bytes) (take (at + 1) (set bytes at b)) (b ∷ [])
-wrote_byte bytes at b l h =
-    take_more_set bytes at b (omega arith)
-    ∙ sym (take_all block (take at bytes ++ b ∷ [])
-    (omega (arith, length-append (take at bytes) (b ∷ []), length-take-le at bytes (omega arith))))
+pub wrote_byte : (xs : List ℕ) (b : ℕ) → length xs < block → Wrote xs (xs ++ (b ∷ [])) (b ∷ [])
+wrote_byte xs b h = sym (take_all block (xs ++ b ∷ []) (omega (arith, length-append xs (b ∷ []))))
 
-pub wrote_past :
-    (bytes : List ℕ) (at b : ℕ) → length bytes ≡ block → at ≡ block → Wrote (take at bytes) (take at bytes) (b ∷ [])
-wrote_past bytes at b l h =
-    sym (take_at (take at bytes) (b ∷ []) block (length-take-le at bytes (omega arith) ∙ h))
+pub wrote_past : (xs : List ℕ) (b : ℕ) → length xs ≡ block → Wrote xs xs (b ∷ [])
+wrote_past xs b h = sym (take_at xs (b ∷ []) block h)
+
+-- xs is written over the first bytes of a block of zeros
+pub padded_by :
+    (xs ys : List ℕ) → ys ≡ xs → ys ++ drop (length xs) (replicate block 0) ≡ filled xs
+padded_by xs ys e = ap (λ zs. zs ++ drop (length xs) (replicate block 0)) e ∙ ap (λ t. xs ++ t) (drop-replicate (length xs) block 0)
 
 -- what was left out is left out of all that follows
 pub take_cut : (n : ℕ) (xs ys : List ℕ) → take n (take n xs ++ ys) ≡ take n (xs ++ ys)
@@ -53,8 +37,7 @@ wrote_all b xs h p = p ∙ take_all block xs h
 -- where nothing more is written, what is there is all
 pub wrote_nothing : (w : Writer) → Wrote (written w) (written w) []
 wrote_nothing w =
-    let short : length (written w) ≤ block = omega (arith, length-take w.at w.bytes, w.within) in
-    sym (ap (take block) (append-nil (written w)) ∙ take_all block (written w) short)
+    sym (ap (take block) (append-nil (written w)) ∙ take_all block (written w) w.within)
 
 -- the loop of a number: y is x and one more group
 pub write_more :

@@ -1,10 +1,10 @@
 -- What a writer has written.
-use Rattle.std.specs.Prelude.{ℕ, List, take}
+use Rattle.std.specs.Prelude.{ℕ, List}
 use Rattle.leb.specs.Block.{Wrote}
 use Rattle.leb.specs.declared.writer.Writer.{Writer}
 
 abbrev pub written : Writer → List ℕ
-written w = take w.at w.bytes
+written w = w.bytes.items
 
 -- between the two, xs was written
 abbrev pub Writes : Writer → Writer → List ℕ → Type 0

@@ -1,18 +1,29 @@
 // A block from its start to its end.
-ghost use Rattle.std.specs.Prelude.{◌≡◌, []};
+ghost use Rattle.std.specs.Prelude.{◌≡◌, ◌≤◌, [], length};
 ghost use Rattle.leb.specs.Block.{filled};
+ghost use Rattle.leb.specs.Limits.{block};
 ghost use Rattle.leb.specs.Written.{written};
 
 use crate::limits::BLOCK;
 use crate::writer::Writer;
+use arrayvec::ArrayVec;
+
+// The bytes, and zeros after them.
+fn padded(bytes: &[u8]) -> [u8; BLOCK]
+    requires { length bytes.now ≤ block }
+    ensures { result ≡ filled bytes.now }
+{
+    let mut padded = [0; BLOCK];
+    padded[..bytes.len()].copy_from_slice(bytes);
+    padded
+}
 
 impl Writer {
     pub fn new() -> Self
         ensures { written result ≡ [] }
     {
         Writer {
-            bytes: [0; BLOCK],
-            at: 0,
+            bytes: ArrayVec::new(),
         }
     }
 
@@ -20,6 +31,6 @@ impl Writer {
     pub fn finish(self) -> [u8; BLOCK]
         ensures { result ≡ filled (written self) }
     {
-        self.bytes
+        padded(self.bytes.as_slice())
     }
 }

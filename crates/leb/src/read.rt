@@ -16,13 +16,10 @@ fn is_taken(high: u32, n: u32, max: u32) -> bool
 pub fn read_number(s: &[u8], max: u32) -> Option<(u32, &[u8])>
     ensures { Reads (λ n. n ≤ max) number_bytes s.now (option_map (λ p. (p.0, p.1.now)) result) }
 {
-    if s.len() == 0 {
-        return None;
-    }
-    let b = s[0] as u32;
-    let rest = &s[1..];
+    let (first, rest) = s.split_first()?;
+    let b = *first as u32;
     if b < GROUP {
-        return if b <= max { Some((b, rest)) } else { None };
+        return (b <= max).then_some((b, rest));
     }
     if max < GROUP {
         return None;

@@ -3,7 +3,7 @@ ghost use Rattle.std.specs.Prelude.{◌≡◌, ◌+◌, ◌%◌, [], ◌∷◌};
 ghost use Rattle.leb.specs.Number.{number_bytes};
 ghost use Rattle.leb.specs.Written.{Writes};
 
-use crate::limits::{BLOCK, GROUP};
+use crate::limits::GROUP;
 use crate::writer::Writer;
 
 // The byte of the lowest group, where another follows.
@@ -17,9 +17,8 @@ impl Writer {
     fn byte(&mut self, b: u8)
         ensures { Writes self.old self.new (b ∷ []) }
     {
-        if self.at < BLOCK {
-            self.bytes[self.at] = b;
-            self.at += 1;
+        if !self.bytes.is_full() {
+            self.bytes.push(b);
         }
     }
 
@@ -27,6 +26,7 @@ impl Writer {
         ensures { Writes self.old self.new (number_bytes n) }
     {
         let mut n = n;
+        // A while: how many groups there are shows only as the number shrinks.
         while n >= GROUP {
             self.byte(group_of(n));
             n /= GROUP;

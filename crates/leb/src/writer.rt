@@ -1,14 +1,13 @@
 // A block that is written from its start on.
-ghost use Rattle.std.specs.Prelude.{◌≡◌, ◌-◌, ◌≤◌, drop, replicate};
+ghost use Rattle.std.specs.Prelude.{◌≤◌};
+ghost use Rattle.arrayvec.specs.ArrayVec.{array_vec_len};
 ghost use Rattle.leb.specs.Limits.{block};
 
 use crate::limits::BLOCK;
+use arrayvec::ArrayVec;
 
-// What is not written yet is zero.
 #[derive(Drop)]
 pub struct Writer {
-    pub(crate) bytes: [u8; BLOCK],
-    pub(crate) at: usize,
-    ghost within: { at ≤ block },
-    ghost clear: { drop at bytes ≡ replicate (block - at) 0 },
+    pub(crate) bytes: ArrayVec<u8, BLOCK>,
+    ghost within: { array_vec_len bytes ≤ block },
 }

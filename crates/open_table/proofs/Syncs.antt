@@ -1,48 +1,35 @@
 -- One turn of a table's sync.
-use Rattle.std.proofs.Common.{◌≡◌, ℕ, zero, suc, ◌<◌, ◌≤◌, List, [], ◌∷◌, ◌++◌, map, length, get_or, take, drop, set, Some, None, Option, refl, ap, ◌∙◌, le_of_suc-le-suc, not-suc-le-zero}
-use Rattle.open_table.specs.Stages.{after_sync}
+use Rattle.std.proofs.Common.{◌≡◌, suc, Bool, cond, List, [], ◌∷◌, ◌++◌, map, length, Some, None, Option, refl, ap, ◌∙◌}
+use Rattle.open_table.specs.Stages.{MovesTo, Syncs, after_sync}
 use Rattle.open_table.specs.Tables.{entry_in}
 use Rattle.open_table.specs.declared.stage.Entry.{Entry}
 use Rattle.open_table.specs.declared.stage.Stage.{Stage}
 use Rattle.open_table.specs.declared.stage.Stage.TheVariants.{Written, Logged, Running, Finished, Closing}
 use Rattle.service.specs.Table as model
-use Rattle.std.specs.List.{remove}
+use Rattle.std.specs.List.Retain.{RetainsInTurn}
 use Rattle.time.specs.declared.position.Position.{Position}
-
-abbrev pub at_stage : Entry → Stage → Entry
-at_stage e s = record { ticket = e.ticket; stage = s }
 
 abbrev kept : Entry → Option Stage → List Entry → List Entry
 kept e None es = es
-kept e (Some s) es = at_stage e s ∷ es
+kept e (Some s) es = record { ticket = e.ticket; stage = s } ∷ es
 
 -- the entries after a sync
 abbrev pub synced : List Entry → List Entry
 synced [] = []
 synced (e ∷ es) = kept e (after_sync e.stage) (synced es)
 
-pub keeps :
-    (es : List Entry) (i : ℕ) (e : Entry) (s : Stage) → i < length es → e ≡ get_or es i e → Some s ≡ after_sync e.stage
-    → take (suc i) (set es i (at_stage e s)) ++ synced (drop (suc i) (set es i (at_stage e s))) ≡ take i es ++ synced (drop i es)
-keeps [] i e s h p q = absurd (not-suc-le-zero h)
-keeps (x ∷ es) zero e s h p q =
-    ap (λ o. kept e o (synced es)) q ∙ ap (λ y. kept y (after_sync y.stage) (synced es)) p
-keeps (x ∷ es) (suc i) e s h p q = ap (λ ys. x ∷ ys) (keeps es i e s (le_of_suc-le-suc h) p q)
+moves : (o : Option Stage) (e f : Entry) (b : Bool) (es : List Entry) → MovesTo o e f b → cond b (f ∷ es) es ≡ kept e o es
+moves None e f b es h = ap (λ t. cond t (f ∷ es) es) h
+moves (Some s) e f b es h = ap (λ t. cond t (f ∷ es) es) h.0 ∙ ap (λ x. x ∷ es) h.1
 
-pub leaves :
-    (es : List Entry) (i : ℕ) (e : Entry) → i < length es → e ≡ get_or es i e → None ≡ after_sync e.stage
-    → take i (remove es i) ++ synced (drop i (remove es i)) ≡ take i es ++ synced (drop i es)
-leaves [] i e h p q = absurd (not-suc-le-zero h)
-leaves (x ∷ es) zero e h p q =
-    ap (λ o. kept e o (synced es)) q ∙ ap (λ y. kept y (after_sync y.stage) (synced es)) p
-leaves (x ∷ es) (suc i) e h p q = ap (λ ys. x ∷ ys) (leaves es i e (le_of_suc-le-suc h) p q)
-
-pub ended : (es : List Entry) (i : ℕ) (all : List Entry) → length es ≤ i → take i es ++ synced (drop i es) ≡ all → es ≡ all
-ended [] zero all h e = e
-ended [] (suc i) all h e = e
-ended (x ∷ es) zero all h e = absurd (not-suc-le-zero h)
-ended (x ∷ es) (suc i) all h e =
-    ap (λ ys. x ∷ ys) (ended es i (take i es ++ synced (drop i es)) (le_of_suc-le-suc h) refl) ∙ e
+-- what stays of the entries when a test that syncs them goes over them in turn
+pub retained :
+    {S : Type 0} (R : S → Entry → Bool → S → Entry → Type 0)
+    → ((s : S) (e : Entry) (b : Bool) (t : S) (f : Entry) → R s e b t f → Syncs e f b)
+    → (s : S) (es fs : List Entry) → RetainsInTurn R s es fs → fs ≡ synced es
+retained R says s [] fs r = r
+retained R says s (e ∷ es) fs (b, t, f, h, gs, rest, is) =
+    is ∙ moves (after_sync e.stage) e f b gs (says s e b t f h) ∙ ap (kept e (after_sync e.stage)) (retained R says t es gs rest)
 
 entry_of : Position → Stage → Entry
 entry_of t s = record { ticket = t; stage = s }

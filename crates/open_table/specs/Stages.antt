@@ -3,7 +3,8 @@ use Rattle.open_table.specs.declared.stage.Change.{Change}
 use Rattle.open_table.specs.declared.stage.Change.TheVariants.{Synced, Launched, Ended, Settled}
 use Rattle.open_table.specs.declared.stage.Stage.{Stage}
 use Rattle.open_table.specs.declared.stage.Stage.TheVariants.{Written, Logged, Running, Finished, Closing}
-use Rattle.std.specs.Prelude.{Some, None, Option}
+use Rattle.open_table.specs.declared.stage.Entry.{Entry}
+use Rattle.std.specs.Prelude.{◌≡◌, Bool, true, false, Some, None, Option}
 
 -- a sync makes what was written logged, and lets go of what was closing
 abbrev pub after_sync : Stage → Option Stage
@@ -40,3 +41,11 @@ after_change s Synced = after_sync s
 after_change s Launched = Some (after_launch s)
 after_change s Ended = Some (after_end s)
 after_change s Settled = Some (after_settle s)
+
+-- the entry moves to this stage and stays, or it leaves the table
+abbrev pub MovesTo : Option Stage → Entry → Entry → Bool → Type 0
+MovesTo None old new stays = stays ≡ false
+MovesTo (Some s) old new stays = (stays ≡ true) × (new ≡ record { ticket = old.ticket; stage = s })
+
+abbrev pub Syncs : Entry → Entry → Bool → Type 0
+Syncs old new stays = MovesTo (after_sync old.stage) old new stays

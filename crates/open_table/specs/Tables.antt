@@ -1,8 +1,9 @@
 -- The table as the model of the service has it.
-use Rattle.std.specs.Prelude.{ℕ, Bool, cond, List, [], ◌∷◌, ◌++◌, map, vec_items}
+use Rattle.std.specs.Prelude.{ℕ, List, [], ◌∷◌, ◌++◌, map, vec_items, Ok, Err, Result}
 use Rattle.open_table.specs.declared.stage.Entry.{Entry}
 use Rattle.open_table.specs.declared.stage.Stage.{Stage}
 use Rattle.open_table.specs.declared.stage.Stage.TheVariants.{Written, Logged, Running, Finished, Closing}
+use Rattle.open_table.specs.declared.table.Full.{Full}
 use Rattle.open_table.specs.declared.table.Table.{Table}
 use Rattle.service.specs.Table as model
 use Rattle.time.specs.Position.{rank}
@@ -22,5 +23,6 @@ abbrev pub table_in : Table → List model.Entry
 table_in t = map entry_in (vec_items t.entries)
 
 -- the table with one ticket more, if it was added
-abbrev pub after_add : Bool → List model.Entry → ℕ → model.Stage → List model.Entry
-after_add added table t s = cond added (table ++ (record { ticket = t; stage = s } ∷ [])) table
+abbrev pub after_add : Result (Unit {0}) Full → List model.Entry → ℕ → model.Stage → List model.Entry
+after_add (Ok u) table t s = table ++ (record { ticket = t; stage = s } ∷ [])
+after_add (Err e) table t s = table

@@ -1,12 +1,12 @@
 // What is done to the table.
-ghost use Rattle.std.specs.Prelude.{◌≡◌, [], length, IfOk, nat_lt};
+ghost use Rattle.std.specs.Prelude.{◌≡◌, [], length, IfOk, is_ok, nat_lt};
 ghost use Rattle.open_table.specs.Tables.{after_add, stage_in, table_in};
 ghost use Rattle.page.specs.Limits.{most_open};
-ghost use Rattle.service.specs.Table.{mark, synced_table, tickets_of};
+ghost use Rattle.service.specs.Table.{synced_table, tickets_of};
 ghost use Rattle.time.specs.Position.{rank};
 
-use crate::stage::{Change, Entry, Stage, moved};
-use crate::table::Table;
+use crate::stage::{Entry, Stage};
+use crate::table::{Full, Table};
 use page::MOST_OPEN;
 use std::alloc::{AllocError, Global};
 use time::Position;
@@ -28,36 +28,21 @@ impl Table {
     }
 
     // The ticket is put at the end, if there is a place for it.
-    pub fn add(&mut self, ticket: Position, stage: Stage) -> bool
-        ensures answer { result ≡ nat_lt (length (tickets_of (table_in self.old))) most_open }
+    pub fn add(&mut self, ticket: Position, stage: Stage) -> Result<(), Full>
+        ensures answer { is_ok result ≡ nat_lt (length (tickets_of (table_in self.old))) most_open }
         ensures table { table_in self.new ≡ after_add result (table_in self.old) (rank ticket) (stage_in stage) }
     {
         if !self.has_place() {
-            return false;
+            return Err(Full);
         }
         self.entries.push_reserved(Entry { ticket, stage });
-        true
+        Ok(())
     }
 
     // The page in flight is synced: what was written is logged, and what was closing leaves the table.
     pub fn sync(&mut self)
         ensures { table_in self.new ≡ synced_table (table_in self.old) }
     {
-        let mut i = 0;
-        while i < self.entries.len() {
-            let e = self.entries[i];
-            match moved(e.stage, Change::Synced) {
-                Some(stage) => {
-                    self.entries[i] = Entry {
-                        ticket: e.ticket,
-                        stage,
-                    };
-                    i += 1;
-                }
-                None => {
-                    let _ = self.entries.remove(i);
-                }
-            }
-        }
+        self.entries.retain_mut(|e| e.sync());
     }
 }

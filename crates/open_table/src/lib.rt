@@ -6,4 +6,4 @@ mod stage;
 mod table;
 
 pub use stage::{Change, Entry, Stage, moved};
-pub use table::Table;
+pub use table::{Full, Table};

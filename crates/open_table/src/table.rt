@@ -10,3 +10,7 @@ pub struct Table {
     pub(crate) entries: Vec<Entry>,
     ghost room: { most_open ≤ vec_capacity entries },
 }
+
+// There is no place for one more ticket, and none was added.
+#[derive(Clone, Copy, Debug, PartialEq, Eq)]
+pub struct Full;

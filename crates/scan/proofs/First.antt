@@ -1,21 +1,27 @@
 -- The first byte that passes a test.
-use Rattle.std.proofs.Common.{◌≡◌, ℕ, suc, ◌+◌, ◌<◌, ◌≤◌, Bool, true, false, cond, List, [], ◌∷◌, length, get_or, drop, add-one, arith, drop_of_length-le, drop-cons}
+use Rattle.std.proofs.Common.{◌≡◌, ℕ, suc, ◌+◌, ◌≤◌, Bool, true, false, cond, not, ltb, List, [], ◌∷◌, length, Some, None, refl, arith}
+use Rattle.std.specs.Option.{unwrap_or}
+use Rattle.std.specs.List.{position, position_or_len}
+use Rattle.std.proofs.lemmas.Bool.Decides.{nat_tests}
+use Rattle.std.proofs.lemmas.List.Sums.{prefix_len-le-length}
 use Rattle.scan.specs.Scan.{before_first}
 
-module _ (p : ℕ → Bool) (s : List ℕ) (i : ℕ) (h : i < length s) where
-  pub first_go : p (get_or s i 0) ≡ false → i + before_first p (drop i s) ≡ i + 1 + before_first p (drop (i + 1) s)
-  first_go e = rw (add-one, drop-cons s i 0 h, e) (omega arith)
-
-  pub first_stop : p (get_or s i 0) ≡ true → i + before_first p (drop i s) ≡ i
-  first_stop e = rw (drop-cons s i 0 h, e) (omega arith)
-
-pub first_end : (p : ℕ → Bool) (s : List ℕ) (i : ℕ) → length s ≤ i → i + before_first p (drop i s) ≡ i
-first_end p s i h = rw (drop_of_length-le s h) (omega arith)
+-- its place is the one that std counts to
+pub first_position : (p : ℕ → Bool) (s : List ℕ) → before_first p s ≡ position_or_len p s
+first_position p [] = refl
+first_position p (x ∷ xs) = go (p x) (first_position p xs)
+  where
+    go : (t : Bool) → before_first p xs ≡ position_or_len p xs →
+        cond t 0 (suc (before_first p xs)) ≡ cond (not t) (1 + position_or_len p xs) 0
+    go true ih = refl
+    go false ih = omega arith
 
 pub first_le : (p : ℕ → Bool) (s : List ℕ) → before_first p s ≤ length s
-first_le p [] = omega arith
-first_le p (x ∷ xs) = go (p x) (first_le p xs)
+first_le p s = rw first_position (prefix_len-le-length _ s)
+
+-- it stands where std finds it, or else at the end
+pub first_found : (p : ℕ → Bool) (s : List ℕ) → unwrap_or (position p s) (length s) ≡ before_first p s
+first_found p s = rw first_position (go (position_or_len p s) (prefix_len-le-length _ s))
   where
-    go : (t : Bool) → before_first p xs ≤ length xs → cond t 0 (suc (before_first p xs)) ≤ suc (length xs)
-    go true ih = omega arith
-    go false ih = omega arith
+    go : (k : ℕ) → k ≤ length s → unwrap_or (cond (ltb k (length s)) (Some k) None) (length s) ≡ k
+    go k h = grind (arith, nat_tests)

@@ -1,11 +1,11 @@
 // Bytes of a text: which kinds there are, and where the next one of a kind stands.
 #![tactic(auto)]
 
-ghost use Rattle.std.specs.Prelude.{◌≡◌, ◌+◌, ◌≤◌, length, drop};
+ghost use Rattle.std.specs.Prelude.{◌≡◌, ◌+◌, ◌≤◌, length, drop, position};
 ghost use Rattle.scan.specs.Scan.{before_first, is};
 
 // A kind of byte.
-#[derive(Clone, Copy)]
+#[derive(Clone, Copy, PartialEq, Eq, Debug)]
 pub enum Kind {
     // this byte alone
     Byte(u8),
@@ -31,15 +31,21 @@ impl Kind {
     }
 }
 
+// The place of the first byte of a kind.
+fn find(s: &[u8], kind: Kind) -> Option<usize>
+    ensures { result ≡ position (is kind) s.now }
+{
+    s.iter().position(|x| kind.has(*x))
+}
+
 // The place of the first byte of a kind at or after `from`, or the text's end.
 pub fn scan(s: &[u8], from: usize, kind: Kind) -> usize
     ensures value { result ≡ from + before_first (is kind) (drop from s.now) }
     ensures bound { from ≤ length s.now → result ≤ length s.now }
     ensures low { from ≤ result }
 {
-    let mut i = from;
-    while i < s.len() && !kind.has(s[i]) {
-        i += 1;
+    match s.get(from..) {
+        Some(rest) => from + find(rest, kind).unwrap_or(rest.len()),
+        None => from,
     }
-    i
 }

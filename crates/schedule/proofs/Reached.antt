@@ -81,14 +81,8 @@ module _ (n : ℕ) (off : ℕ → ℤ) (p : ℕ → Bool) (u : ℕ) where
       some_finds (label off u - highest off n u) p (label off u) d.number d.passes d.shown (omega (arith, d.shown))
 
 -- a step of the search
-pub some_stop : (n j : ℕ) (p : ℕ → Bool) (m : ℕ) → n ≡ suc j → p m ≡ true → some_of n p m ≡ true
-some_stop n j p m e h = rw (e, h, some_of) refl
-
 pub some_go : (n j : ℕ) (p : ℕ → Bool) (m : ℕ) → n ≡ suc j → p m ≡ false → some_of n p m ≡ some_of j p (m - 1)
 some_go n j p m e h = rw (e, h, some_of) refl
-
-pub some_end : (n : ℕ) (p : ℕ → Bool) (m : ℕ) → n ≡ 0 → some_of n p m ≡ false
-some_end n p m e = rw e refl
 
 due_by : (w : Bool) (p : ℕ → Bool) (off : ℕ → ℤ) (u : ℕ) →
     (due_in w p (reached off u) (label off u) ≡ true → DueBy w p off u)

@@ -1,10 +1,11 @@
 -- When a job line is due at a minute.
 use Rattle.std.specs.Prelude.{◌≡◌, ℕ, zero, suc, ◌-◌, ◌<◌, ◌≤◌, Bool, true, false, cond, ◌↔◌, List, ℤ, Some, None, Ok, Err, Option, Result}
 use Rattle.std.specs.List.{slice_get}
+use Rattle.time.specs.Limits.{served}
 use Rattle.time.specs.declared.position.Position.{Position}
 use Rattle.zone.specs.Answers.{window}
 use Rattle.zone.specs.Limits.{look_back}
-use Rattle.zone.specs.Offsets.{label, reached, served}
+use Rattle.zone.specs.Offsets.{label, reached}
 use Rattle.zone.specs.declared.window.Window.{Window}
 use Rattle.zone.specs.declared.refusal.Refusal.{Refusal}
 use Rattle.zone.specs.declared.refusal.Refusal.TheVariants.{OutOfRange}
@@ -49,6 +50,15 @@ DueMeans = (off : ℕ → ℤ) (j : Job) (u : ℕ) → (due off j u ≡ true) �
 abbrev pub line_due : Window → Option Job → Bool
 line_due w None = false
 line_due w (Some j) = due_in (wild j) (matches j) w.above.0 w.to.0
+
+-- r is the first line from a on and below b that is due, or none of them is
+abbrev pub FirstDue : Window → List Job → ℕ → ℕ → Option ℕ → Type 0
+FirstDue w js a b None = (k : ℕ) → a ≤ k → k < b → line_due w (slice_get js k) ≡ false
+FirstDue w js a b (Some r) =
+    (a ≤ r)
+    × (r < b)
+    × (line_due w (slice_get js r) ≡ true)
+    × ((k : ℕ) → a ≤ k → k < r → line_due w (slice_get js k) ≡ false)
 
 -- is line k due at minute u?
 abbrev pub due_line : (ℕ → ℤ) → List Job → ℕ → ℕ → Bool

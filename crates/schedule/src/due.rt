@@ -1,53 +1,52 @@
 // Whether a job line is due at a minute.
-ghost use Rattle.std.specs.Prelude.{◌≡◌, ◌-◌, true, false, MatchResult};
-ghost use Rattle.std.specs.List.{slice_get};
-ghost use Rattle.std.specs.Option.{option_map};
+ghost use Rattle.std.specs.Prelude.{◌≡◌, ◌-◌, length, min, true, false, MatchResult};
+ghost use Rattle.std.specs.List.{list_any, slice_get};
+ghost use Rattle.time.specs.Limits.{served};
 ghost use Rattle.zone.specs.Answers.{window as window_at};
-ghost use Rattle.zone.specs.Offsets.{served};
+ghost use Rattle.zone.specs.Labels.{labels_of};
 ghost use Rattle.zone.specs.declared.refusal.Refusal.TheVariants.{OutOfRange};
 ghost use Rattle.crontab.specs.Job.{wild};
-ghost use Rattle.schedule.specs.Due.{due_answer, due_in, DueMeans, line_due, some_of};
+ghost use Rattle.schedule.specs.Due.{due_answer, due_in, DueMeans, FirstDue, line_due, some_of};
 ghost use Rattle.schedule.specs.Match.{matches as matches_label};
 
 use crate::matching::matches;
 use crate::moment::Moment;
 use crate::parts::parts_of;
 use crontab::Job;
-use time::{Minute, Position};
-use zone::{Label, Refusal, Zone, fresh};
+use time::{Minute, Position, Served};
+use zone::{Refusal, Window, Zone, fresh_in, minute_from};
 
-// Does the line match one of the labels above `above`, up to `to`?
-fn any_matches(job: &Job, above: Label, to: Label) -> bool
-    ensures { result ≡ some_of (to.0 - above.0) (matches_label job.now) to.0 }
+// Does the line match one of the labels of the window?
+fn any_matches(job: &Job, window: Window) -> bool
+    ensures { result ≡ list_any (λ l. matches_label job.now l.0) (labels_of window) }
 {
-    let mut m = to;
-    'labels: while m.count() > above.count() {
-        if matches(job, parts_of(m)) {
-            return true;
-        }
-        m = m.previous();
-    }
-    false
+    window.labels().any(|label| matches(job, parts_of(label)))
 }
 
-// Job line `k`, if there is one.
-fn line(jobs: &[Job], k: u8) -> Option<&Job>
-    ensures { option_map (λ x. x.now) result ≡ slice_get jobs.now k }
+// How many lines the file has, and no more than `to`.
+fn lines_known(jobs: &[Job], to: u8) -> u8
+    ensures { result ≡ min (length jobs.now) to }
 {
-    let i = k as usize;
-    if i < jobs.len() { Some(&jobs[i]) } else { None }
+    jobs.len().min(usize::from(to)) as u8
 }
 
 impl Moment {
-    // What is to be known of minute `u`, found by the zone's offsets.
+    // What is to be known of a minute at which a line can be due, found by the zone's offsets.
+    pub fn within<Z: Zone>(z: &Z, u: Served) -> Moment
+        ensures { result.window ≡ window_at (Z.offsets z.now) u.minute.0 }
+    {
+        let window = fresh_in(z, u);
+        let parts = parts_of(window.to);
+        Moment { window, parts }
+    }
+
+    // The same of minute `u`, if a line can be due at it.
     pub fn at<Z: Zone>(z: &Z, u: Minute) -> Result<Moment, Refusal>
         ensures { MatchResult result
             (λ m. (served u.0 ≡ true) × (m.window ≡ window_at (Z.offsets z.now) u.0))
             (λ e. (served u.0 ≡ false) × (e ≡ OutOfRange u)) }
     {
-        let window = fresh(z, u)?;
-        let parts = parts_of(window.to);
-        Ok(Moment { window, parts })
+        Ok(Moment::within(z, minute_from(u)?))
     }
 
     // Does a fixed line match a label that the minute is the first to reach? Mostly that is one label, whose parts
@@ -56,11 +55,15 @@ impl Moment {
         ensures { result ≡ some_of (self.now.window.to.0 - self.now.window.above.0)
             (matches_label job.now) self.now.window.to.0 }
     {
-        let to = self.window.to;
-        if to.count() <= self.window.above.count() {
+        let Window { above, to } = self.window;
+        if to <= above {
             return false;
         }
-        matches(job, self.parts) || any_matches(job, self.window.above, to.previous())
+        let earlier = Window {
+            above,
+            to: to.previous(),
+        };
+        matches(job, self.parts) || any_matches(job, earlier)
     }
 
     // Is the line due?
@@ -79,10 +82,14 @@ impl Moment {
     pub fn is_line_due(&self, jobs: &[Job], k: u8) -> bool
         ensures { result ≡ line_due self.now.window (slice_get jobs.now k) }
     {
-        match line(jobs, k) {
-            Some(job) => self.is_due(job),
-            None => false,
-        }
+        jobs.get(usize::from(k)).is_some_and(|job| self.is_due(job))
+    }
+
+    // The first line from `from` on and below `to` that is due. Lines that the file lacks are not asked about.
+    pub fn first_due(&self, jobs: &[Job], from: u8, to: u8) -> Option<u8>
+        ensures { FirstDue self.now.window jobs.now from to result }
+    {
+        (from..lines_known(jobs, to)).find(|k| self.is_line_due(jobs, *k))
     }
 }
 
@@ -95,8 +102,6 @@ pub fn due_at<Z: Zone>(z: &Z, jobs: &[Job], p: Position) -> Result<bool, Refusal
 }
 
 // The test by computation says what the rule says.
-pub fn due_means_what_the_rule_says() -> u8
+pub fn due_means_what_the_rule_says()
     ensures { DueMeans }
-{
-    0
-}
+{}

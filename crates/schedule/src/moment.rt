@@ -5,7 +5,7 @@ ghost use Rattle.schedule.specs.Match.{parts as parts_of};
 use crate::parts::Parts;
 use zone::Window;
 
-#[derive(Clone, Copy)]
+#[derive(Clone, Copy, Debug, PartialEq, Eq)]
 pub struct Moment {
     pub(crate) window: Window,
     // of the label that the clock shows

@@ -2,12 +2,10 @@
 ghost use Rattle.std.specs.Prelude.{◌≡◌};
 ghost use Rattle.schedule.specs.Match.{parts};
 
-use calendar::{date_of, weekday_of};
+use calendar::{MINUTES_A_DAY, date_of, weekday_of};
 use zone::Label;
 
-const MINUTES_A_DAY: u32 = 1440;
-
-#[derive(Clone, Copy)]
+#[derive(Clone, Copy, Debug, PartialEq, Eq)]
 pub struct Parts {
     pub minute: u32,
     pub hour: u32,

@@ -17,10 +17,14 @@ last_minute = 100000000
 abbrev pub lines : ℕ
 lines = 64
 
+-- from a first minute on, up to the last
+abbrev pub within : ℕ → ℕ → Bool
+within first u = nat_le first u && nat_le u last_minute
+
 -- the minutes of which a zone tells
 abbrev pub told : ℕ → Bool
-told u = nat_le first_told u && nat_le u last_minute
+told u = within first_told u
 
 -- the minutes at which a line can be due or an offset change
 abbrev pub served : ℕ → Bool
-served u = nat_le first_minute u && nat_le u last_minute
+served u = within first_minute u

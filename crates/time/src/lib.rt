@@ -4,12 +4,10 @@
 mod limits;
 mod minute;
 mod position;
-mod served;
-mod told;
+mod ranged;
 mod walk;
 
 pub use limits::{FIRST_MINUTE, FIRST_TOLD, LAST_MINUTE, LINES};
 pub use minute::Minute;
 pub use position::Position;
-pub use served::Served;
-pub use told::Told;
+pub use ranged::{MinuteFrom, Served, Told};

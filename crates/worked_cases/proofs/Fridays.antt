@@ -1,6 +1,6 @@
 -- Every Friday at nine.
 use Rattle.std.proofs.Common.{◌≡◌, ℕ, zero, suc, ◌+◌, ◌-◌, ◌/◌, ◌%◌, ◌<◌, ◌≤◌, Bool, true, false, ◌&&◌, ltb, codes, refl, ap, ◌∙◌, subst, arith}
-use native.Mathlib.Decide.{ℕ_discrete}
+use Rattle.std.proofs.Math.Decide.{ℕ_discrete}
 use Rattle.std.proofs.lemmas.Bool.{and_from, and_parts, or_right}
 use Rattle.fields.specs.Values.{field_reading, field_set}
 use Rattle.fields.specs.declared.element.Field.TheVariants.{Minute, Hour, Month, Weekday}

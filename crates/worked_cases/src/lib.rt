@@ -3,8 +3,6 @@
 
 ghost use Rattle.worked_cases.specs.Worked.{Worked};
 
-pub fn worked_cases_hold() -> u8
+pub fn worked_cases_hold()
     ensures { Worked }
-{
-    0
-}
+{}

@@ -3,3 +3,4 @@ pub mod Refusal
 pub mod Offsets
 pub mod Answers
 pub mod Table
+pub mod Labels

@@ -3,6 +3,7 @@
 
 mod entry;
 mod label;
+mod labels;
 mod limits;
 mod place;
 mod refusal;
@@ -15,11 +16,12 @@ mod zone;
 
 pub use entry::Entry;
 pub use label::Label;
+pub use labels::Labels;
 pub use limits::{LEAST_APART, MOST_CHANGE};
 pub use refusal::Refusal;
 pub use refusal_code::Code;
 pub use table::Checked;
 pub use table_zone::TableZone;
-pub use told::{change_after, is_told, label_at, label_in, offset_in, served_at, told_at};
+pub use told::{change_after, is_told, label_at, label_in, minute_from, offset_in};
 pub use window::{Window, fresh, fresh_in};
 pub use zone::Zone;

@@ -16,7 +16,7 @@ pub enum Refusal {
 }
 
 impl Refusal {
-    // The refusal by its number, with the index or the minute.
+    // The refusal by its number, with the index or the minute. By `as`, since a usize has no From<u32>.
     pub fn code(self) -> Code
         ensures { result ≡ code_of self }
     {

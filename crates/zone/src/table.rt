@@ -9,11 +9,11 @@ use crate::entry::Entry;
 use crate::refusal::Refusal;
 use crate::rules::fault_of;
 use crate::table_zone::TableZone;
-use crate::told::told_at;
+use crate::told::minute_from;
 use crate::zone::Zone;
-use time::Minute;
+use time::{FIRST_TOLD, Minute};
 
-// The zone of a table, and why the table was refused, if it was.
+// The zone of a table, and why the table was refused, if it was. No Result: a refused table has a zone too.
 #[derive(Clone, Copy, Debug, PartialEq, Eq)]
 pub struct Checked<'a> {
     pub zone: TableZone<'a>,
@@ -75,12 +75,12 @@ impl<'a> Zone for TableZone<'a> {
     fn lawful(&self) {}
 
     fn offset_at(&self, u: Minute) -> Result<i32, Refusal> {
-        told_at(u)?;
+        minute_from::<FIRST_TOLD>(u)?;
         Ok(self.offset_by(u.count()))
     }
 
     fn next_change(&self, u: Minute) -> Result<Option<Minute>, Refusal> {
-        told_at(u)?;
+        minute_from::<FIRST_TOLD>(u)?;
         Ok(self.change_after(u.count()))
     }
 }

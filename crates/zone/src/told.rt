@@ -1,7 +1,7 @@
 // The minutes of which a zone tells, and their labels.
 ghost use Rattle.std.specs.Prelude.{◌≡◌, MatchResult, false};
 ghost use Rattle.std.specs.Option.{option_map};
-ghost use Rattle.time.specs.Limits.{served as is_served, told as is_told};
+ghost use Rattle.time.specs.Limits.{told as is_told, within};
 ghost use Rattle.zone.specs.Answers.{label_answer};
 ghost use Rattle.zone.specs.Offsets.{label as label_of, NextChange};
 ghost use Rattle.zone.specs.declared.refusal.Refusal.TheVariants.{OutOfRange};
@@ -9,7 +9,7 @@ ghost use Rattle.zone.specs.declared.refusal.Refusal.TheVariants.{OutOfRange};
 use crate::label::Label;
 use crate::refusal::Refusal;
 use crate::zone::Zone;
-use time::{Minute, Served, Told};
+use time::{Minute, MinuteFrom, Told};
 
 // Does a zone tell of minute `u`?
 pub fn is_told(u: Minute) -> bool
@@ -18,18 +18,11 @@ pub fn is_told(u: Minute) -> bool
     u.is_told()
 }
 
-// Minute `u`, where zones tell of it.
-pub fn told_at(u: Minute) -> Result<Told, Refusal>
-    ensures { MatchResult result (λ t. t.minute ≡ u) (λ e. (is_told u.0 ≡ false) × (e ≡ OutOfRange u)) }
+// Minute `u`, if it lies from `FIRST` on and up to the last.
+pub fn minute_from<const FIRST: u32>(u: Minute) -> Result<MinuteFrom<FIRST>, Refusal>
+    ensures { MatchResult result (λ m. m.minute ≡ u) (λ e. (within FIRST u.0 ≡ false) × (e ≡ OutOfRange u)) }
 {
-    Told::new(u).ok_or(Refusal::OutOfRange(u))
-}
-
-// Minute `u`, where a line can be due at it.
-pub fn served_at(u: Minute) -> Result<Served, Refusal>
-    ensures { MatchResult result (λ s. s.minute ≡ u) (λ e. (is_served u.0 ≡ false) × (e ≡ OutOfRange u)) }
-{
-    Served::new(u).ok_or(Refusal::OutOfRange(u))
+    MinuteFrom::new(u).ok_or(Refusal::OutOfRange(u))
 }
 
 // The offset at a minute of which the zone tells.
@@ -64,5 +57,5 @@ pub fn label_in<Z: Zone>(z: &Z, u: Told) -> Label
 pub fn label_at<Z: Zone>(z: &Z, u: Minute) -> Result<Label, Refusal>
     ensures { result ≡ label_answer (Z.offsets z.now) u }
 {
-    Ok(label_in(z, told_at(u)?))
+    Ok(label_in(z, minute_from(u)?))
 }

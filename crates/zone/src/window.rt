@@ -7,7 +7,7 @@ ghost use Rattle.zone.specs.Offsets.{reached};
 use crate::label::Label;
 use crate::limits::LOOK_BACK;
 use crate::refusal::Refusal;
-use crate::told::{label_in, offset_in, served_at};
+use crate::told::{label_in, minute_from, offset_in};
 use crate::zone::Zone;
 use time::{Minute, Served, Told};
 
@@ -64,5 +64,5 @@ pub fn fresh_in<Z: Zone>(z: &Z, u: Served) -> Window
 pub fn fresh<Z: Zone>(z: &Z, u: Minute) -> Result<Window, Refusal>
     ensures { result ≡ fresh_answer (Z.offsets z.now) u }
 {
-    Ok(fresh_in(z, served_at(u)?))
+    Ok(fresh_in(z, minute_from(u)?))
 }

@@ -12,6 +12,7 @@ pub trait Zone {
     ghost offsets: { Self → ℕ → ℤ };
 
     // Does nothing: its contract is the law that every zone owes.
+    // A method, and no ghost law: the proof of a ghost law has to stand in specs/, and these proofs are long.
     fn lawful(&self)
         ensures { Law (offsets self.now) };
 

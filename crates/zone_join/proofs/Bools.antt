@@ -1,21 +1,5 @@
--- Tests joined by and and or.
-use Rattle.std.proofs.Common.{◌≡◌, Bool, true, false, ◌&&◌, ◌||◌, sym, refl, arith}
-
-module _ (a b : Bool) where
-  pub and_l : (a && b) ≡ true → a ≡ true
-  and_l e = grind arith
-
-  pub and_r : (a && b) ≡ true → b ≡ true
-  and_r e = grind arith
-
-  pub and_by : a ≡ true → b ≡ true → (a && b) ≡ true
-  and_by e h = rw (e, h) refl
-
-  pub and_true : a ≡ true → b ≡ (a && b)
-  and_true e = rw e refl
-
-  pub and_false : a ≡ false → a ≡ (a && b)
-  and_false e = rw e refl
+-- Tests joined by or, and tests that tell the same.
+use Rattle.std.proofs.Common.{◌≡◌, Bool, true, false, ◌||◌, sym, refl}
 
 pub or_r : (a b : Bool) → (a || b) ≡ true → (a ≡ true → ⊥) → b ≡ true
 or_r true b e n = absurd (n refl)

@@ -1,6 +1,7 @@
 -- The law as a test of each minute tells the law as it reads.
 use Rattle.std.proofs.Common.{◌≡◌, ℕ, zero, suc, ◌+◌, ◌-◌, ◌<◌, ◌≤◌, Bool, true, false, ltb, leb, ℤ, nat_abs, Decides, sym, refl, ap, ◌∙◌, arith, ltb-false, ltb-true, le-leb, leb-false, leb-true}
 use Rattle.std.proofs.Math.Decide.{dec_le, ℕ_discrete}
+use Rattle.std.proofs.lemmas.Bool.{and_parts, and_from}
 use Rattle.std.proofs.lemmas.Int.{ints}
 use Rattle.time.specs.Limits.{first_told, last_minute}
 use Rattle.zone.specs.Limits.{most_offset, most_change, least_apart}
@@ -9,7 +10,7 @@ use Rattle.zone_join.specs.Joined.{joined, each, near_at, still_at, calm_at, all
 use Rattle.zone_join.specs.Joined.{lawful?, roomy, accepts}
 use Rattle.zone_join.specs.Laws.{Joinable}
 use Rattle.zone_join.specs.Limits.{first_join, last_join}
-use Rattle.zone_join.proofs.Bools.{and_l, and_r, and_by, or_r, or_by}
+use Rattle.zone_join.proofs.Bools.{or_r, or_by}
 
 pub each_there : (n : ℕ) (p : ℕ → Bool) (a v : ℕ) → each n p a ≡ true → a ≤ v → v < a + n → p v ≡ true
 each_there zero p a v h l r = absurd (omega arith)
@@ -47,7 +48,7 @@ module _ (h : ℕ → ℤ) (w : ℕ) (m : w ≤ last_minute) where
 
 module _ (n : ℕ) (h : ℕ → ℤ) (v : ℕ) where
   pub calm_step : calm_at n h v ≡ true → change h v ≤ most_change
-  calm_step e = leb-true _ _ (and_l (leb (change h v) most_change) _ e)
+  calm_step e = leb-true _ _ (and_parts (leb (change h v) most_change) _ e).0
 
   pub calm_apart :
       (w : ℕ) →
@@ -67,7 +68,7 @@ module _ (n : ℕ) (h : ℕ → ℤ) (v : ℕ) where
       follow : each n (still_at h) (suc v) ≡ true
       follow =
           or_r (leb (change h v) 0) (each n (still_at h) (suc v))
-          (and_r (leb (change h v) most_change) _ e)
+          (and_parts (leb (change h v) most_change) _ e).1
           (λ z. c (change_none h v (leb-true _ _ z)))
 
   pub calm_back :
@@ -75,7 +76,7 @@ module _ (n : ℕ) (h : ℕ → ℤ) (v : ℕ) where
       (Changes h v → (w : ℕ) → v < w → w ≤ last_minute → Changes h w → v + suc n ≤ w) →
       calm_at n h v ≡ true
   calm_back s a =
-      and_by (leb (change h v) most_change) _
+      and_from (leb (change h v) most_change) _
       (le-leb _ _ s)
       (or_by (leb (change h v) 0) _
       (λ z. each_back n (still_at h) (suc v)
@@ -131,8 +132,8 @@ module _ (h : ℕ → ℤ) where
 
   pub lawful_law : lawful? h ≡ true → Law h
   lawful_law e =
-      let near = near_there (and_l (all_near h) (all_calm h) e) in
-      let calm = calm_there (and_r (all_near h) (all_calm h) e) in
+      let near = near_there (and_parts (all_near h) (all_calm h) e).0 in
+      let calm = calm_there (and_parts (all_near h) (all_calm h) e).1 in
       record {
         range = λ v l r. leb-true (nat_abs (h v)) most_offset (near v l r);
         step = λ v l r. calm_step (least_apart - 1) h v (calm v l r);
@@ -140,29 +141,29 @@ module _ (h : ℕ → ℤ) where
       }
 
   pub law_lawful : Law h → lawful? h ≡ true
-  law_lawful k = and_by (all_near h) (all_calm h) (near_all k) (calm_all k)
+  law_lawful k = and_from (all_near h) (all_calm h) (near_all k) (calm_all k)
 
 pub roomy_late : (t : ℕ) → roomy t ≡ true → first_join ≤ t
-roomy_late t e = leb-true _ _ (and_l (leb first_join t) (leb t last_join) e)
+roomy_late t e = leb-true _ _ (and_parts (leb first_join t) (leb t last_join) e).0
 
 pub roomy_early : (t : ℕ) → roomy t ≡ true → t ≤ last_join
-roomy_early t e = leb-true _ _ (and_r (leb first_join t) (leb t last_join) e)
+roomy_early t e = leb-true _ _ (and_parts (leb first_join t) (leb t last_join) e).1
 
 -- what a join that is taken tells
 module _ (f g : ℕ → ℤ) (t : ℕ) where
   pub accepts_roomy : accepts f g t ≡ true → roomy t ≡ true
   unfolding accepts
-  accepts_roomy e = and_l (roomy t) (lawful? (joined f g t)) e
+  accepts_roomy e = (and_parts (roomy t) (lawful? (joined f g t)) e).0
 
   pub accepts_law : accepts f g t ≡ true → Law (joined f g t)
   unfolding accepts
-  accepts_law e = lawful_law (joined f g t) (and_r (roomy t) (lawful? (joined f g t)) e)
+  accepts_law e = lawful_law (joined f g t) (and_parts (roomy t) (lawful? (joined f g t)) e).1
 
   pub law_accepts : first_join ≤ t → t ≤ last_join → Law (joined f g t) → accepts f g t ≡ true
   unfolding accepts
   law_accepts a b l =
-      and_by (roomy t) (lawful? (joined f g t))
-      (and_by (leb first_join t) (leb t last_join) (le-leb _ _ a) (le-leb _ _ b))
+      and_from (roomy t) (lawful? (joined f g t))
+      (and_from (leb first_join t) (leb t last_join) (le-leb _ _ a) (le-leb _ _ b))
       (law_lawful (joined f g t) l)
 
   pub no_room : roomy t ≡ false → false ≡ accepts f g t

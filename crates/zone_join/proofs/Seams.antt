@@ -2,14 +2,14 @@
 use Rattle.std.proofs.Common.{◌≡◌, ℕ, ◌+◌, ◌-◌, ◌<◌, ◌≤◌, Bool, true, false, cond, ◌&&◌, ◌||◌, eqb, ltb, leb, ℤ, ◌-ℤ◌, nat_abs, Some, None, Option, refl, subst, arith, ltb-false, ltb-true, eq-eqb, eqb-true, le-leb, leb-true}
 use Rattle.std.proofs.Math.Decide.{dec_le, dec_lt, ℕ_discrete}
 use Rattle.std.proofs.Math.IntN.{ℤ_discrete}
-use borrow.Author.Tests.{eqb-false}
+use Rattle.std.proofs.lemmas.Bool.{eqb-false, and_parts, and_from}
 use Rattle.std.proofs.lemmas.Int.{ints}
 use Rattle.time.specs.Limits.{first_told, last_minute}
 use Rattle.zone.specs.Limits.{most_offset, most_change, least_apart}
 use Rattle.zone.specs.Offsets.{Changes, change, NextChange, Law}
 use Rattle.zone_join.specs.Joined.{joined, accepts, join_offset, late, clear, smooth}
 use Rattle.zone_join.specs.Limits.{first_join, last_join}
-use Rattle.zone_join.proofs.Bools.{and_l, and_r, and_by, or_by, both}
+use Rattle.zone_join.proofs.Bools.{or_by, both}
 use Rattle.zone_join.proofs.Each.{accepts_law, law_accepts}
 use Rattle.zone_join.proofs.Pieces.{below, above, level_before, level_at, level_after, back_before, back_at, back_after}
 
@@ -213,8 +213,8 @@ module _
         go : (x : Bool) → ltb v t ≡ x → cond x (eqb d 0 && late v z) (eqb d 0 || late t z) ≡ true → Seam f g t
         go true p k =
             shut_seam v m (ltb-true v t p) z n
-            (eqb-true d 0 (and_l (eqb d 0) (late v z) k))
-            (and_r (eqb d 0) (late v z) k)
+            (eqb-true d 0 (and_parts (eqb d 0) (late v z) k).0)
+            (and_parts (eqb d 0) (late v z) k).1
         go false p k =
             let le : t ≤ v = ltb-false v t p in open_seam (λ x h l. m.3 x (omega arith) (omega arith)) z n k
 
@@ -262,7 +262,7 @@ module _
               let lt : v < t = ltb-true v t p in
               let i = m.0 in
               let cv : Changes (joined f g t) v = (λ e. m.2 (back_before f g t v lt e)) in
-              and_by (eqb d 0) (late v z)
+              and_from (eqb d 0) (late v z)
               (eq-eqb d 0 (still v lt i cv))
               (late_from v (omega arith) (omega arith) cv z n)
           go false p = change_late z n
@@ -281,8 +281,8 @@ module _
         Law (joined f g t)
     smooth_law y z m n e =
         seam_law f g t lf lg a b
-        (subst (λ (x : ℕ). x ≤ most_change) q (leb-true _ _ (and_l (leb d most_change) (clear t d y z) e)))
-        (clear_seam y z m n (and_r (leb d most_change) (clear t d y z) e))
+        (subst (λ (x : ℕ). x ≤ most_change) q (leb-true _ _ (and_parts (leb d most_change) (clear t d y z) e).0))
+        (clear_seam y z m n (and_parts (leb d most_change) (clear t d y z) e).1)
 
     law_smooth :
         (y z : Option ℕ) →
@@ -291,7 +291,7 @@ module _
         Law (joined f g t) →
         smooth t d y z ≡ true
     law_smooth y z m n law =
-        and_by (leb d most_change) (clear t d y z) (le-leb _ _ (law_change law)) (law_clear law y z m n)
+        and_from (leb d most_change) (clear t d y z) (le-leb _ _ (law_change law)) (law_clear law y z m n)
 
     -- s is the day before t
     pub taken_is :

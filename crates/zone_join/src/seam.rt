@@ -1,45 +1,70 @@
-// The minutes around a join.
-ghost use Rattle.std.specs.Prelude.{◌≡◌};
+// Two zones, and a minute with room at which the second follows on the first.
+ghost use Rattle.std.specs.Prelude.{◌≡◌, ◌-◌, ◌-ℤ◌, unsigned_abs};
 ghost use Rattle.std.specs.Option.{option_map};
-ghost use Rattle.zone_join.specs.Joined.{clear, late, roomy, smooth};
+ghost use Rattle.zone.specs.Offsets.{NextChange};
+ghost use Rattle.zone_join.specs.Joined.{accepts, joined};
 
-use crate::limits::{FIRST_JOIN, LAST_JOIN};
-use time::Minute;
-use zone::{LEAST_APART, MOST_CHANGE};
+use crate::room::Room;
+use crate::smooth::is_smooth;
+use time::{Minute, Told};
+use zone::{Zone, change_after, offset_in};
 
-// Is the change `w`, if there is one, a day or more after `s`?
-fn is_late(s: Minute, w: Option<Minute>) -> bool
-    ensures { result ≡ late s.0 (option_map (λ m. m.0) w) }
-{
-    match w {
-        None => true,
-        Some(w) => w.count() as u64 >= s.count() as u64 + LEAST_APART as u64,
+#[derive_where(Clone, Copy)]
+pub(crate) struct Seam<'a, A: Zone, B: Zone> {
+    pub(crate) a: &'a A,
+    pub(crate) b: &'a B,
+    pub(crate) room: Room,
+}
+
+impl<'a, A: Zone, B: Zone> Seam<'a, A, B> {
+    // By how much the offset changes there.
+    fn change(&self) -> u32
+        ensures { result ≡ unsigned_abs (B.Zone.offsets self.now.b.now self.now.room.t.0
+            -ℤ A.Zone.offsets self.now.a.now (self.now.room.t.0 - 1)) }
+    {
+        let old = offset_in(self.a, self.room.just_before());
+        let new = offset_in(self.b, self.room.at());
+        new.abs_diff(old)
     }
-}
 
-// Does minute `t` leave room on both sides?
-pub(crate) fn has_room(t: Minute) -> bool
-    ensures { result ≡ roomy t.0 }
-{
-    t.count() >= FIRST_JOIN && t.count() <= LAST_JOIN
-}
+    // Do the joined offsets obey the law?
+    pub(crate) fn is_lawful(&self) -> bool
+        ensures { result ≡ accepts (A.Zone.offsets self.now.a.now)
+            (B.Zone.offsets self.now.b.now)
+            self.now.room.t.0 }
+    {
+        self.a.lawful();
+        self.b.lawful();
+        let before = change_after(self.a, self.room.day_before());
+        let after = change_after(self.b, self.room.at());
+        is_smooth(self.room.minute(), self.change(), before, after)
+    }
 
-// Do changes lie a day apart around `t`, where the offset changes by `change`?
-// `v` is the first change of the first zone after the day before `t`, and `w` that of the second after `t`.
-fn is_clear(t: Minute, change: u32, v: Option<Minute>, w: Option<Minute>) -> bool
-    ensures { result ≡ clear t.0 change (option_map (λ m. m.0) v) (option_map (λ m. m.0) w) }
-{
-    if let Some(v) = v {
-        if v.count() < t.count() {
-            return change == 0 && is_late(v, w);
+    // The first change from there on.
+    fn first_change(&self) -> Option<Minute>
+        ensures { NextChange (joined (A.Zone.offsets self.now.a.now)
+            (B.Zone.offsets self.now.b.now)
+            self.now.room.t.0) (self.now.room.t.0 - 1) (option_map (λ m. m.0) result) }
+    {
+        if self.change() != 0 {
+            return Some(self.room.minute());
+        }
+        change_after(self.b, self.room.at())
+    }
+
+    // The next change after a minute.
+    pub(crate) fn change_after(&self, u: Told) -> Option<Minute>
+        ensures { NextChange (joined (A.Zone.offsets self.now.a.now)
+            (B.Zone.offsets self.now.b.now)
+            self.now.room.t.0) u.minute.0 (option_map (λ m. m.0) result) }
+    {
+        let t = self.room.minute();
+        if u.minute() >= t {
+            return change_after(self.b, u);
+        }
+        match change_after(self.a, u) {
+            Some(v) if v < t => Some(v),
+            _ => self.first_change(),
         }
     }
-    change == 0 || is_late(t, w)
-}
-
-// And is the change at `t` not too large?
-pub(crate) fn is_smooth(t: Minute, change: u32, v: Option<Minute>, w: Option<Minute>) -> bool
-    ensures { result ≡ smooth t.0 change (option_map (λ m. m.0) v) (option_map (λ m. m.0) w) }
-{
-    change <= MOST_CHANGE && is_clear(t, change, v, w)
 }

@@ -1,6 +1,6 @@
-use Rattle.std.proofs.Common.{◌≡◌, ℕ, ◌+◌, ◌-◌, ◌<◌, ◌≤◌, sym, ap, ◌∙◌, arith}
+use Rattle.std.proofs.Common.{◌≡◌, ℕ, ◌+◌, ◌-◌, ◌≤◌, sym, ap, ◌∙◌, arith}
 use Rattle.calendar.specs.Calendar.{from_year, year_days}
-use Rattle.calendar.proofs.Count.{year_long, year_short, year_go, year_stop}
+use Rattle.calendar.proofs.Count.{year_long, year_go}
 use Rattle.calendar.proofs.year_of.Goals as goal
 
 pub years-preserved : goal.years-preserved
@@ -17,12 +17,3 @@ years-preserved c =
       ap (λ (x : ℕ). from_year (n + 1970 - (y + 1)) (y + 1) (d - x)) q
           ∙ sym (year_go (n + 1970 - y) (n + 1970 - (y + 1)) y d (omega arith) w) ∙ i.2,
     )
-
-pub returns : goal.returns
-returns c =
-    let i = c.years.invariant in
-    let w : c.years.days < year_days c.years.year = omega (arith, c.days_in_year.ensures) in
-    record {
-      same = sym (year_stop (c.args.n + 1970 - c.years.year) c.years.year c.years.days w) ∙ i.2;
-      bound = omega (arith, year_short c.years.year);
-    }

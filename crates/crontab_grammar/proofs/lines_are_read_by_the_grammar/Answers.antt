@@ -4,6 +4,5 @@ use Rattle.crontab_grammar.proofs.Jobs.{reads_jobs}
 use Rattle.crontab_grammar.proofs.Orders.{takes_jobs}
 use Rattle.crontab_grammar.proofs.lines_are_read_by_the_grammar.Goals as goal
 
--- src/lib.rt:5:1
 pub returns : goal.returns
 returns c = record { lines = reads_lines; idle = reads_idle; jobs = reads_jobs; in_order = takes_jobs }

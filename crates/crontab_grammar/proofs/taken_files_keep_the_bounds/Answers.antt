@@ -2,6 +2,5 @@ use Rattle.crontab_grammar.proofs.Bounds.{takes_in_range, takes_commands}
 use Rattle.crontab_grammar.proofs.Found.{takes_bytes}
 use Rattle.crontab_grammar.proofs.taken_files_keep_the_bounds.Goals as goal
 
--- src/lib.rt:23:1
 pub returns : goal.returns
 returns c = record { ranges = takes_in_range; commands = takes_commands; bytes = takes_bytes }

@@ -1,80 +1,66 @@
-use Rattle.std.proofs.Common.{◌≡◌, ℕ, ◌+◌, ◌<◌, Bool, true, false, ◌||◌, List, length, get_or, Ok, Err, Option, Result, sym, refl, ap, ◌∙◌, ap₂, arith, rules}
-use Rattle.std.proofs.lemmas.Option.{MatchOption-at_some, MatchOption-at_none}
+use Rattle.std.proofs.Common.{◌≡◌, ℕ, ◌+◌, ◌<◌, false, length, get_or, Ok, Err, sym, refl, ap, ◌∙◌, arith, rules}
+use Rattle.std.proofs.Math.Bool.{or-false}
 use Rattle.std.proofs.lemmas.List.{length-take-le}
 use Rattle.std.proofs.lemmas.List.FromFn.{fill_by_all}
-use Rattle.fields.specs.declared.bytes.Part.{Part}
-use Rattle.fields.specs.declared.reader.BadElement.{BadElement}
-use Rattle.fields.specs.declared.reader.FieldSet.{FieldSet}
-use Rattle.fields.specs.Bytes.{Piece, piece, find_in, has, back_piece}
-use Rattle.fields.specs.Values.{any_takes, unless, field_set, field_reading, holds}
-use Rattle.fields.specs.Bytes.{split}
+use Rattle.std.proofs.lemmas.Result.{err_from_is_err_and}
 use Rattle.scan.proofs.First.{first_le}
-use Rattle.scan.specs.Scan.{is}
-use Rattle.scan.specs.declared.Kind.TheVariants.{Byte}
-use Rattle.fields.proofs.Parts.{bad_step, left_some, left_none, bad_next, any_next, any_last, standing_same}
+use Rattle.fields.specs.Bytes.{Piece, find_in, split}
+use Rattle.fields.specs.Values.{any_takes, holds}
+use Rattle.fields.proofs.Parts.{split_more, split_last, bad_here, bad_next, any_next, back_length, refused, accepted, standing_same}
 use Rattle.fields.proofs.reader.read_field.Goals as goal
 
-pub elements-init : goal.elements-init
-elements-init c =
-    (omega arith, refl, λ k h. ap (λ (b : Bool). b || any_takes c.args.f (split 44 c.args.s.now) k) (c.none-numbers.ensures k h))
-
 -- the element that is refused is the first bad one
-pub returns-in-Err : goal.returns-in-Err
-unfolding field_reading
-returns-in-Err c =
+pub returns-in_err-read_element-clause-answer : goal.returns-in_err-read_element-clause-answer
+returns-in_err-read_element-clause-answer c =
     let f = c.args.f in
-    let s = c.args.s.now in
-    let p = c.first_element.ensures.part in
-    let at : c.first_element.result.0.at ≡ c.elements.rest.at = ap (λ (q : Piece). q.at) p in
-    let bad =
-    sym c.elements.invariant.1
-    ∙ bad_step f c.elements.rest.text.now _ _ (ap (λ (q : Piece). q.text) p) c.in-Err.ensures.answer c.elements.rest.at in
-    let refused : ℕ → Result FieldSet BadElement = λ n. Err (record { fault = c.in-Err.fault; at = n }) in
-    record {
-      answer = ap refused at ∙ sym (ap (λ (o : Option BadElement). unless o (field_set f s)) bad);
-      within = omega (arith, c.elements.invariant.0);
-    }
+    let s = c.loop-e.rest.1.0.now in
+    let cut = c.in-Some.ensures in
+    let bad = c.in_err-read_element.field-0.0 in
+    let verdict = c.in_err-read_element.ensures in
+    let at : bad.at ≡ c.loop-e.rest.0 = verdict.1 ∙ ap (λ (q : Piece). q.at) cut.1 in
+    let parts = split_more s _ _ cut.0 (ap (λ (q : Piece). q.text) cut.1) (ap (λ (q : Piece). q.text) cut.2) in
+    let here = bad_here f s _ _ parts c.loop-e.rest.0 bad (verdict.0, at) in
+    let p = err_from_is_err_and c.from_residual.result c.from_residual.ensures.1 in
+    p.1 ∙ ap Err p.2 ∙ refused f c.args.s.now bad (sym c.loop-e.invariant.1 ∙ here)
 
-pub elements-preserved : goal.elements-preserved
-elements-preserved c =
+pub returns-in_err-read_element-2-clause-answer : goal.returns-in_err-read_element-2-clause-answer
+returns-in_err-read_element-2-clause-answer c =
     let f = c.args.f in
-    let s = c.elements.rest.text.now in
-    let e = c.first_element.result.0.text.now in
-    let m = c.in-Some.m in
-    let p = c.first_element.ensures.part in
-    let r = MatchOption-at_some (has 44 s ≡ false)
-    (λ (x : Part). (has 44 s ≡ true) × (piece x ≡ back_piece 44 (piece c.elements.rest)) × (length e + 1 + length x.text.now ≡ length s))
-    m c.in-Some.is c.first_element.ensures.rest in
-    let text = ap (λ (q : Piece). q.text) p in
-    let l = left_some s m.text.now r.0 (ap (λ (q : Piece). q.text) r.1) in
-    let at : m.at ≡ c.elements.rest.at + (find_in 44 s + 1) = ap (λ (q : Piece). q.at) r.1 in
-    let moved : c.elements.rest.at + (length e + 1) ≡ m.at = let long : length e ≡ find_in 44 s = ap length text ∙ length-take-le (find_in 44 s) s (first_le (is (Byte 44)) s) in omega arith in (
-      omega (arith, c.elements.invariant.0, r.2),
-      sym (bad_next f s e c.in-Ok.span text c.in-Ok.ensures.answer _ l c.elements.rest.at m.at moved) ∙ c.elements.invariant.1,
-      λ k h. any_next f s e c.in-Ok.span text c.in-Ok.ensures.answer _ l k _ _ _ (c.add.ensures k h) (c.elements.invariant.2 k h),
+    let s = c.loop-e.rest.1.0.now in
+    let bad = c.in_err-read_element-2.field-0.0 in
+    let here = bad_here f s s _ (split_last s c.in_default.ensures) c.loop-e.rest.0 bad c.in_err-read_element-2.ensures in
+    let r = c.from_residual-in_err-read_element-2 in
+    let p = err_from_is_err_and r.result r.ensures.1 in
+    p.1 ∙ ap Err p.2 ∙ refused f c.args.s.now bad (sym c.loop-e.invariant.1 ∙ here)
+
+pub loop-e-preserved : goal.loop-e-preserved
+loop-e-preserved c =
+    let f = c.args.f in
+    let s = c.loop-e.rest.1.0.now in
+    let e = c.in-Some.e.text.now in
+    let m = c.in-Some.more.text.now in
+    let cut = c.in-Some.ensures in
+    let first = ap (λ (q : Piece). q.text) cut.1 in
+    let rest = ap (λ (q : Piece). q.text) cut.2 in
+    let at : c.in-Some.more.at ≡ c.loop-e.rest.0 + (find_in 44 s + 1) = ap (λ (q : Piece). q.at) cut.2 in
+    let taken = c.in_ok-read_element.ensures in
+    let parts = split_more s e m cut.0 first rest in
+    let long : length e ≡ find_in 44 s = ap length first ∙ length-take-le (find_in 44 s) s (first_le _ s) in (
+      omega (arith, back_length s m cut.0 rest, c.loop-e.invariant.0),
+      sym (bad_next f s e _ parts c.loop-e.rest.0 c.in-Some.more.at _ taken (omega arith)) ∙ c.loop-e.invariant.1,
+      λ k h. any_next f s e _ parts k _ _ _ _ taken (c.add.ensures k h) (c.loop-e.invariant.2 k h),
     )
 
-pub returns-in-None : goal.returns-in-None
-unfolding field_reading
-returns-in-None c =
+pub returns-clause-answer : goal.returns-clause-answer
+returns-clause-answer c =
     let f = c.args.f in
-    let s = c.elements.rest.text.now in
-    let e = c.first_element.result.0.text.now in
-    let p = c.first_element.ensures.part in
-    let text = ap (λ (q : Piece). q.text) p in
-    let h = MatchOption-at_none (has 44 s ≡ false)
-    (λ (x : Part). (has 44 s ≡ true) × (piece x ≡ back_piece 44 (piece c.elements.rest)) × (length e + 1 + length x.text.now ≡ length s))
-    c.in-None.is c.first_element.ensures.rest in
-    let l = left_none s h in
-    let good = sym c.elements.invariant.1 ∙ bad_next f s e c.in-Ok.span text c.in-Ok.ensures.answer _ l c.elements.rest.at _ refl in
-    let numbers : (k : ℕ) → k < 64 → get_or c.add.new.self.has k false ≡ any_takes f (split 44 c.args.s.now) k =
-    λ k b. any_last f s e c.in-Ok.span text c.in-Ok.ensures.answer _ l refl k _ _ _ (c.add.ensures k b) (c.elements.invariant.2 k b) in
+    let s = c.loop-e.rest.1.0.now in
+    let parts = split_last s c.in_default.ensures in
+    let taken = c.in_ok-read_element-2.ensures in
+    let good = sym c.loop-e.invariant.1 ∙ bad_next f s s _ parts c.loop-e.rest.0 _ _ taken refl in
+    let numbers : (k : ℕ) → k < 64 → get_or c.add-2.new.self.has k false ≡ any_takes f (split 44 c.args.s.now) k =
+    λ k h. sym (or-false _) ∙ any_next f s s _ parts k _ _ _ _ taken (c.add-2.ensures k h) (c.loop-e.invariant.2 k h) in
     let long : length c.stood_for.result.has ≡ 64 = search rules in
     let values = fill_by_all (holds f c.args.s.now) c.stood_for.result.has 64 false long
-    (λ k b. c.stood_for.ensures k b ∙ standing_same f _ _ numbers k b) in
-    let made : List Bool → Bool → Result FieldSet BadElement = λ v b. Ok (record { values = record { has = v }; starred = b }) in
-    record {
-      answer = ap₂ made values c.is_starred.ensures
-          ∙ sym (ap (λ (o : Option BadElement). unless o (field_set f c.args.s.now)) good);
-      within = tt;
-    }
+    (λ k h. c.stood_for.ensures k h ∙ standing_same f _ _ numbers k h) in
+    (λ i. Ok (record { values = record { has = values i }; starred = c.is_starred.ensures i })) ∙ accepted f c.args.s.now good

@@ -11,7 +11,7 @@ pub returns-then-old-new : goal.returns-then-old-new
 returns-then-old-new g c =
     let off = g.Z.Zone.offsets c.args.z.now in
     let u = c.args.u.minute.0 in
-    let served = c.args.u.served in
+    let served = c.args.u.within in
     let old = c.offset_in-old.ensures ∙ ap off c.earlier.ensures in
     let new = c.offset_in-new.ensures ∙ ap (λ (m : Minute). off m.0) c.from.ensures in
     let same : off (u - look_back) ≡ off u = omega (arith, ints) in

@@ -1,5 +1,5 @@
 use Rattle.std.proofs.Common.{false}
-use lib.ListN.{get_or-replicate}
+use Rattle.std.proofs.lemmas.List.{get_or-replicate}
 use Rattle.fields.proofs.values.Values.none.Goals as goal
 
 pub returns : goal.returns
