@@ -1,5 +1,6 @@
 // The parts of a case.
-ghost use Rattle.std.specs.Prelude.{◌≡◌, ◌++◌, IfOk, MatchOption, Ok, false, true};
+ghost use Rattle.std.specs.Prelude.{◌≡◌, IfOk, MatchOption, MatchResult, None, Ok, false, true};
+ghost use Rattle.std.specs.Str.Pattern.{FindsText, SplitsAroundMatch};
 ghost use Rattle.cases.specs.Digits.{has_capital};
 ghost use Rattle.std.specs.declared.io.ErrorKind.TheVariants.{InvalidData};
 ghost use Rattle.std.specs.IoError.{error_kind};
@@ -20,12 +21,11 @@ fn unreadable() -> io::Error {
 
 // What stands before and after the first `mark`.
 pub fn parted<'a>(text: &'a str, mark: &str) -> io::Result<(&'a str, &'a str)>
-    ensures { IfOk result (λ p. text.now ≡ p.0.now ++ mark.now ++ p.1.now) }
+    ensures { MatchResult result
+        (λ p. SplitsAroundMatch (FindsText mark.now) text.now p.0.now p.1.now)
+        (λ _. FindsText mark.now text.now None) }
 {
-    match text.split_once(mark) {
-        Some(parts) => Ok(parts),
-        None => Err(unreadable()),
-    }
+    text.split_once(mark).ok_or_else(unreadable)
 }
 
 // A number of a case.

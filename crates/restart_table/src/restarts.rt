@@ -16,16 +16,10 @@ fn unwritten() -> io::Error {
 // The block that begins with the bytes that the digits say, and has zeros after them.
 fn block_of(digits: &str) -> io::Result<[u8; PAGE_SIZE]> {
     let mut block = [0; PAGE_SIZE];
-    let Some(digits) = without_capitals(digits) else {
-        return Err(unwritten());
-    };
-    let Some(front) = block.get_mut(..digits.len() / 2) else {
-        return Err(unwritten());
-    };
-    match hex::decode_to_slice(digits, front) {
-        Ok(()) => Ok(block),
-        Err(_) => Err(unwritten()),
-    }
+    let digits = without_capitals(digits).ok_or_else(unwritten)?;
+    let front = block.get_mut(..digits.len() / 2).ok_or_else(unwritten)?;
+    hex::decode_to_slice(digits, front).map_err(|_| unwritten())?;
+    Ok(block)
 }
 
 // Writes the blocks `INDEX:HEX`, so that they last.

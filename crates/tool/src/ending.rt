@@ -20,14 +20,10 @@ pub trait Program {
 
 // Prints what is said of the input, whether it was taken or refused.
 fn print(rt: &HostRuntime, judged: Result<Vec<u8>, Stop>) -> Result<(), Stop> {
-    match judged {
-        Ok(text) => Ok(rt.stdout().write_all(text.as_slice())?),
-        Err(Stop::Refused(text)) => {
-            rt.stdout().write_all(text.as_slice())?;
-            Err(Stop::Refused(text))
-        }
-        Err(other) => Err(other),
+    if let Ok(text) | Err(Stop::Refused(text)) = &judged {
+        rt.stdout().write_all(text.as_slice())?;
     }
+    judged.map(|_| ())
 }
 
 fn work<P: Program>(rt: &HostRuntime, program: &P) -> Result<(), Stop> {
