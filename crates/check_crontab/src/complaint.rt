@@ -1,9 +1,10 @@
-// A refusal, as text.
+// A refusal, as text. What has lines of the file in it is written and not displayed, since those are bytes.
 use crontab::{Code, Place, Refusal};
 use fields::{Fault, Field};
 use std::io::Write;
 use std::{fmt, io};
 
+// Three texts of a field: a type displays itself in one way only.
 fn name(f: Field) -> &'static str {
     match f {
         Field::Minute => "minute",

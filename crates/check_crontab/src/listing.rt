@@ -1,4 +1,4 @@
-// A crontab that was taken, as text.
+// A crontab that was taken, as text: written and not displayed, since commands are bytes.
 use crate::runs::Runs;
 use crontab::{Crontab, Job};
 use fields::FieldSet;

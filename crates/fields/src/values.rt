@@ -6,7 +6,8 @@ ghost use Rattle.fields.specs.declared.element.Field.TheVariants.{Weekday};
 use crate::element::Span;
 use std::array;
 
-// Whether each number below 64 is one of the values: enough for every field.
+// Whether each number below 64 is one of the values: enough for every field. Flags in fixed memory and no set, since
+// no field allocates.
 #[derive(Clone, Copy, PartialEq, Eq, Debug)]
 pub struct Values {
     has: [bool; 64],

@@ -24,6 +24,7 @@ fn is_within(from: Position, count: u32) -> bool
     FIRST_MINUTE <= from.minute().count() && last_examined(from, count) <= u64::from(LAST_MINUTE)
 }
 
+// Of the private functions this one alone takes a zone with job lines, so a struct of the two would be no plainer.
 fn before_due<Z: Zone>(zone: &Z, jobs: &[Job], from: Position, count: u32) -> u32
     requires { within from count ≡ true }
     ensures { result ≡ before_due (due_of (Z.Zone.offsets zone.now) jobs.now) (rank from) count }

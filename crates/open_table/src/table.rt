@@ -5,7 +5,7 @@ ghost use Rattle.page.specs.Limits.{most_open};
 use crate::stage::Entry;
 
 // There is room for all open tickets from the start, so that no call needs memory. The journal's state has such a list
-// too; a struct around the two lists would have to name all their calls again for this one fact.
+// too, for which see there.
 #[derive(Drop)]
 pub struct Table {
     pub(crate) entries: Vec<Entry>,

@@ -4,7 +4,7 @@
 ghost use Rattle.std.specs.Prelude.{◌≡◌, ◌+◌, ◌≤◌, length, drop, position};
 ghost use Rattle.scan.specs.Scan.{before_first, is};
 
-// A kind of byte.
+// A kind of byte. An enum and no closure: the definitions name the kinds too.
 #[derive(Clone, Copy, PartialEq, Eq, Debug)]
 pub enum Kind {
     // this byte alone

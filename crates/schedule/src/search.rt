@@ -12,7 +12,8 @@ use zone::{Refusal, Zone};
 // The first due position from `from` on and before minute `before`. Of the private functions this one alone takes a
 // zone with job lines, so a struct of the two would be no plainer.
 fn search<Z: Zone>(z: &Z, jobs: &[Job], from: Position, before: Minute) -> Option<Position>
-    requires { (bounds from.minute.0 ≡ true) × (bounds before.0 ≡ true) }
+    requires from { bounds from.minute.0 ≡ true }
+    requires before { bounds before.0 ≡ true }
     ensures { NextDue (due_line (Z.offsets z.now) jobs.now) (rank from) before.0 result }
 {
     let mut line = from.line();

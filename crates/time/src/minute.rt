@@ -21,7 +21,7 @@ impl Minute {
         self.0
     }
 
-    // Does a zone tell of it?
+    // Does a zone tell of it? This test and the next are one comparison each; `MinuteFrom` has what they share.
     pub fn is_told(self) -> bool
         ensures { result ≡ is_told self.0 }
     {

@@ -19,10 +19,10 @@ fn read_file(rt: &HostRuntime, name: String) -> Result<Vec<u8>, Stop> {
 fn read_standard_input(rt: &HostRuntime) -> Result<Vec<u8>, Stop> {
     let heap = rt.alloc();
     let mut bytes = Vec::new(heap);
-    match rt.stdin().read_to_end(&mut bytes) {
-        Ok(_) => Ok(bytes),
-        Err(e) => Err(unread(String::from_str(heap, "standard input")?, e)),
-    }
+    rt.stdin().read_to_end(&mut bytes).try_map_err(|e| -> Result<Stop, Stop> {
+        Ok(unread(String::from_str(heap, "standard input")?, e))
+    })?;
+    Ok(bytes)
 }
 
 pub(crate) fn read(rt: &HostRuntime) -> Result<Vec<u8>, Stop> {

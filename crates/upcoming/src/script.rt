@@ -17,7 +17,7 @@ pub(crate) struct Script<'a> {
     pub(crate) crontab: &'a [u8],
 }
 
-// What stands before and after the first byte `b`.
+// What stands before and after the first byte `b`. The fields' own cut keeps places, which no part of a script needs.
 fn cut(text: &[u8], b: u8) -> Option<(&[u8], &[u8])>
     ensures parts { MatchOption result
         (Lacks text.now b (length text.now))
@@ -95,6 +95,7 @@ fn span_line(text: &[u8]) -> Option<(u64, u64, &[u8])> {
 pub(crate) fn read(heap: Global, bytes: &[u8]) -> Result<Script<'_>, Fault> {
     let mut entries = Vec::new(heap);
     let mut text = bytes;
+    // A while: entries are taken as long as lines have their form, and what is left is read on.
     while let Some((entry, rest)) = zone_line(text) {
         entries.push(entry)?;
         text = rest;
