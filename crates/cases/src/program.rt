@@ -1,5 +1,5 @@
 // A program's answers, compared with those of the cases.
-ghost use Rattle.std.specs.Prelude.{◌≡◌, IfOk, length};
+ghost use Rattle.std.specs.Prelude.{◌≡◌, ◌≤◌, IfOk, length};
 ghost use Rattle.std.specs.Str.Lines.{lines};
 
 use crate::tally::Tally;
@@ -74,7 +74,8 @@ pub fn judge<P: Program>(
     program: &P,
     cases: &str,
 ) -> io::Result<Tally>
-    ensures { IfOk result (λ t. t.cases ≡ length (lines cases.now)) }
+    ensures cases { IfOk result (λ t. t.cases ≡ length (lines cases.now)) }
+    ensures differ { IfOk result (λ t. t.differ ≤ t.cases) }
 {
     let mut differ = 0usize;
     for (k, case) in cases.lines().enumerate() {

@@ -1,5 +1,5 @@
 // The parts of a case.
-ghost use Rattle.std.specs.Prelude.{◌≡◌, IfOk, MatchOption, MatchResult, None, Ok, false, true};
+ghost use Rattle.std.specs.Prelude.{◌≡◌, Err, MatchOption, MatchResult, None, Ok, false, true};
 ghost use Rattle.std.specs.Str.Pattern.{FindsText, SplitsAroundMatch};
 ghost use Rattle.cases.specs.Digits.{has_capital};
 ghost use Rattle.std.specs.declared.io.ErrorKind.TheVariants.{InvalidData};
@@ -15,7 +15,9 @@ pub fn malformed(form: &str) -> io::Error
     io::Error::new(io::ErrorKind::InvalidData, form)
 }
 
-fn unreadable() -> io::Error {
+fn unreadable() -> io::Error
+    ensures { error_kind result ≡ InvalidData }
+{
     malformed("a case is not written as it should be")
 }
 
@@ -23,7 +25,7 @@ fn unreadable() -> io::Error {
 pub fn parted<'a>(text: &'a str, mark: &str) -> io::Result<(&'a str, &'a str)>
     ensures { MatchResult result
         (λ p. SplitsAroundMatch (FindsText mark.now) text.now p.0.now p.1.now)
-        (λ _. FindsText mark.now text.now None) }
+        (λ e. (error_kind e ≡ InvalidData) × FindsText mark.now text.now None) }
 {
     text.split_once(mark).ok_or_else(unreadable)
 }
@@ -32,7 +34,9 @@ pub fn parted<'a>(text: &'a str, mark: &str) -> io::Result<(&'a str, &'a str)>
 pub fn parsed<T: FromStr>(text: &str) -> io::Result<T>
 where
     <T as FromStr>::Err: Drop,
-    ensures { IfOk result (λ x. T.from_str_gives text.now (Ok x)) }
+    ensures { MatchResult result
+        (λ x. T.from_str_gives text.now (Ok x))
+        (λ e. (error_kind e ≡ InvalidData) × (f : T.Err) × T.from_str_gives text.now (Err f)) }
 {
     text.parse::<T>().map_err(|_| unreadable())
 }

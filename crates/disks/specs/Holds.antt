@@ -1,6 +1,6 @@
 -- Blocks that keep writes back.
 use Rattle.std.specs.Prelude.{◌≡◌, ◌⊎◌, ℕ, List, Some, None, Option, refl}
-use Rattle.std.proofs.Common.{inl, inr}
+use Rattle.std.proofs.Common.{ap, inl, inr}
 use Rattle.disk.specs.Contents.{Content, torn, held, Among}
 use Rattle.disks.specs.declared.fate.Fate.{Fate}
 use Rattle.disks.specs.declared.fate.Fate.TheVariants.{Old, New, Torn}
@@ -18,7 +18,7 @@ cut_may Old (Some b) landed = inl refl
 cut_may New (Some b) landed = inr (inl refl)
 cut_may Torn (Some b) landed = inr (inr (inl refl))
 
-new_shown : (write landed : Option (List ℕ)) → content_of (settled New write landed) ≡ content_of (or_else write landed)
+new_shown : (write landed : Option (List ℕ)) → settled New write landed ≡ or_else write landed
 new_shown None landed = refl
 new_shown (Some b) landed = refl
 
@@ -41,5 +41,5 @@ block_laws =
       at_most = λ b bytes c m. kept_back b.held b.kept bytes c m;
       one = λ fate b. refl;
       picked = λ fate b. cut_may fate b.held b.kept;
-      synced = λ b. new_shown b.held b.kept;
+      synced = λ b. ap content_of (new_shown b.held b.kept);
     }
