@@ -10,4 +10,4 @@ mod text;
 
 pub use program::{Program, judge};
 pub use tally::Tally;
-pub use text::{malformed, parsed, parted, without_capitals};
+pub use text::{NOT_HEX, malformed, parsed, parted, unwritten, without_capitals};

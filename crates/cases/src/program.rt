@@ -3,7 +3,7 @@ ghost use Rattle.std.specs.Prelude.{◌≡◌, ◌≤◌, IfOk, length};
 ghost use Rattle.std.specs.Str.Lines.{lines};
 
 use crate::tally::Tally;
-use crate::text::malformed;
+use crate::text::{UNWRITTEN, malformed};
 use std::alloc::Global;
 use std::io;
 use std::io::Write;
@@ -12,8 +12,10 @@ pub trait Program {
     // What stands before the word `case` in a line of the report.
     fn label(&self) -> &str;
 
-    // How a case has to be written.
-    fn form(&self) -> &str;
+    // What is told of a case that is not written as it has to be.
+    fn form(&self) -> &str {
+        UNWRITTEN
+    }
 
     // Writes what the program answers to the question of a case.
     fn answer(&self, heap: Global, out: &mut Vec<u8>, question: &str) -> io::Result<()>;

@@ -12,10 +12,6 @@ impl Program for Echo {
         "echo "
     }
 
-    fn form(&self) -> &str {
-        "no case"
-    }
-
     fn answer(&self, _heap: Global, out: &mut Vec<u8>, question: &str) -> io::Result<()> {
         out.write_all(question.as_bytes())
     }

@@ -8,6 +8,12 @@ ghost use Rattle.std.specs.IoError.{error_kind};
 use std::io;
 use std::str::FromStr;
 
+// What is told of a case that is not written as it has to be.
+pub(crate) const UNWRITTEN: &str = "a case is not written as it should be";
+
+// The same where a case is written in hexadecimal.
+pub const NOT_HEX: &str = "a case is not written as HEX -> ANSWER";
+
 // A case that is not written as it has to be.
 pub fn malformed(form: &str) -> io::Error
     ensures { error_kind result ≡ InvalidData }
@@ -15,10 +21,11 @@ pub fn malformed(form: &str) -> io::Error
     io::Error::new(io::ErrorKind::InvalidData, form)
 }
 
-fn unreadable() -> io::Error
+// A part of a case that is not written as it has to be.
+pub fn unwritten() -> io::Error
     ensures { error_kind result ≡ InvalidData }
 {
-    malformed("a case is not written as it should be")
+    malformed(UNWRITTEN)
 }
 
 // What stands before and after the first `mark`.
@@ -27,7 +34,7 @@ pub fn parted<'a>(text: &'a str, mark: &str) -> io::Result<(&'a str, &'a str)>
         (λ p. SplitsAroundMatch (FindsText mark.now) text.now p.0.now p.1.now)
         (λ e. (error_kind e ≡ InvalidData) × FindsText mark.now text.now None) }
 {
-    text.split_once(mark).ok_or_else(unreadable)
+    text.split_once(mark).ok_or_else(unwritten)
 }
 
 // A number of a case.
@@ -38,7 +45,7 @@ where
         (λ x. T.from_str_gives text.now (Ok x))
         (λ e. (error_kind e ≡ InvalidData) × (f : T.Err) × T.from_str_gives text.now (Err f)) }
 {
-    text.parse::<T>().map_err(|_| unreadable())
+    text.parse::<T>().map_err(|_| unwritten())
 }
 
 // Does a letter from A to Z stand in it?
@@ -54,9 +61,5 @@ pub fn without_capitals(digits: &str) -> Option<&str>
         (has_capital digits.now ≡ true)
         (λ d. (d.now ≡ digits.now) × (has_capital digits.now ≡ false)) }
 {
-    if has_capital(digits.as_bytes()) {
-        None
-    } else {
-        Some(digits)
-    }
+    (!has_capital(digits.as_bytes())).then_some(digits)
 }

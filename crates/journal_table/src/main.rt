@@ -4,7 +4,7 @@
 
 mod pages;
 
-use cases::{Program, judge, malformed, without_capitals};
+use cases::{NOT_HEX, Program, judge, malformed, without_capitals};
 use hex::FromHex;
 use page::PAGE_SIZE;
 use std::alloc::Global;
@@ -20,13 +20,13 @@ impl Program for Codec {
     }
 
     fn form(&self) -> &str {
-        "a case is not written as HEX -> ANSWER"
+        NOT_HEX
     }
 
     fn answer(&self, _heap: Global, out: &mut Vec<u8>, question: &str) -> io::Result<()> {
         match block_of(question) {
             Some(block) => pages::write_page(out, &block),
-            None => Err(malformed(self.form())),
+            None => Err(malformed(NOT_HEX)),
         }
     }
 }

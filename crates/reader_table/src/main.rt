@@ -4,7 +4,7 @@
 
 mod answer;
 
-use cases::{Program, judge, malformed, without_capitals};
+use cases::{NOT_HEX, Program, judge, malformed, without_capitals};
 use std::alloc::Global;
 use std::io;
 use std::io::{Read, Write};
@@ -21,13 +21,13 @@ impl Program for Reader {
     }
 
     fn form(&self) -> &str {
-        "a case is not written as HEX -> ANSWER"
+        NOT_HEX
     }
 
     fn answer(&self, heap: Global, out: &mut Vec<u8>, question: &str) -> io::Result<()> {
         match file_of(heap, question)? {
             Some(file) => answer::write_answer(heap, out, file.as_slice()),
-            None => Err(malformed(self.form())),
+            None => Err(malformed(NOT_HEX)),
         }
     }
 

@@ -17,10 +17,6 @@ impl Program for Replay {
         "replay "
     }
 
-    fn form(&self) -> &str {
-        "a case is not written as it should be"
-    }
-
     fn answer(&self, heap: Global, out: &mut Vec<u8>, question: &str) -> io::Result<()> {
         restarts::write_restart(heap, out, question)
     }

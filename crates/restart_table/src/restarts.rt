@@ -1,56 +1,73 @@
 // Questions about restarts: what is found again of the journal on a disk.
-use cases::{malformed, parsed, parted, without_capitals};
+use cases::{parsed, parted, unwritten, without_capitals};
 use disk::Disk;
 use disks::{Fate, HoldingDisk, Unmade};
 use journal::{Refusal, Restarted, restart};
 use page::PAGE_SIZE;
 use position_text::{AsOpen, AsPosition};
 use std::alloc::Global;
-use std::io;
 use std::io::Write;
-
-fn unwritten() -> io::Error {
-    malformed("a case is not written as it should be")
-}
+use std::{fmt, io};
 
 // The block that begins with the bytes that the digits say, and has zeros after them.
 fn block_of(digits: &str) -> io::Result<[u8; PAGE_SIZE]> {
     let mut block = [0; PAGE_SIZE];
-    let digits = without_capitals(digits).ok_or_else(unwritten)?;
-    let front = block.get_mut(..digits.len() / 2).ok_or_else(unwritten)?;
+    let digits = without_capitals(digits).ok_or_else(|| unwritten())?;
+    let front = block
+        .get_mut(..digits.len() / 2)
+        .ok_or_else(|| unwritten())?;
     hex::decode_to_slice(digits, front).map_err(|_| unwritten())?;
     Ok(block)
 }
 
-// Writes the blocks `INDEX:HEX`, so that they last.
-fn fill(disk: &mut HoldingDisk, blocks: &str) -> io::Result<()> {
-    for block in blocks.split(',') {
-        let (index, content) = parted(block, ":")?;
-        if content != "torn" {
-            disk.write(parsed(index)?, &block_of(content)?);
+// A block that a question names: what it holds, or none where it is torn.
+#[derive(Clone, Copy)]
+struct Named {
+    index: usize,
+    content: Option<[u8; PAGE_SIZE]>,
+}
+
+// The block `INDEX:HEX` or `INDEX:torn`.
+fn block_named(text: &str) -> io::Result<Named> {
+    let (index, content) = parted(text, ":")?;
+    Ok(Named {
+        index: parsed(index)?,
+        content: if content == "torn" {
+            None
+        } else {
+            Some(block_of(content)?)
+        },
+    })
+}
+
+// Writes the blocks that hold something, so that they last, and tears the others: these are being written when the
+// power fails.
+fn fill(disk: &mut HoldingDisk, blocks: &[Named]) {
+    for block in blocks {
+        if let Some(bytes) = &block.content {
+            disk.write(block.index, bytes);
         }
     }
     disk.sync();
-    Ok(())
-}
-
-// Tears the blocks `INDEX:torn`: they are being written when the power fails.
-fn tear(disk: &mut HoldingDisk, blocks: &str) -> io::Result<()> {
-    for block in blocks.split(',') {
-        let (index, content) = parted(block, ":")?;
-        if content == "torn" {
-            disk.write(parsed(index)?, &[0; PAGE_SIZE]);
+    for block in blocks {
+        if block.content.is_none() {
+            disk.write(block.index, &[0; PAGE_SIZE]);
         }
     }
     disk.cut_to(Fate::Torn);
-    Ok(())
 }
 
-fn write_found(out: &mut Vec<u8>, found: &Restarted) -> io::Result<()> {
-    let top = found.top;
-    let next = AsPosition(found.state.next);
-    let open = AsOpen(found.state.tickets.as_slice());
-    write!(out, "{top} {next} {open}")
+// What a restart found, as `TOP NEXT OPEN`.
+#[derive(Drop)]
+struct Found(Restarted);
+
+impl fmt::Display for Found {
+    fn fmt<W: fmt::Write>(&self, f: &mut fmt::Formatter<W>) -> fmt::Result {
+        let top = self.0.top;
+        let next = AsPosition(self.0.state.next);
+        let open = AsOpen(self.0.state.tickets.as_slice());
+        write!(f, "{top} {next} {open}")
+    }
 }
 
 fn out_of_memory() -> io::Error {
@@ -83,11 +100,14 @@ pub(crate) fn write_restart(heap: Global, out: &mut Vec<u8>, question: &str) -> 
         Err(unmade) => return write_unmade(out, unmade),
     };
     if blocks != "-" {
-        fill(&mut disk, blocks)?;
-        tear(&mut disk, blocks)?;
+        let blocks: Vec<Named> = blocks.split(',').map(block_named).try_collect(heap)?;
+        fill(&mut disk, blocks.as_slice());
     }
     match restart(heap, &disk, parsed(lines)?) {
-        Ok(found) => write_found(out, &found),
+        Ok(found) => {
+            let found = Found(found);
+            write!(out, "{found}")
+        }
         Err(refusal) => write_refusal(out, refusal),
     }
 }

@@ -1,6 +1,6 @@
 -- What the synced pages say of the tickets, and what a page in flight will add.
 use Rattle.std.proofs.Common.{◌≡◌, refl, sym, ap, ◌∙◌, subst, ◌⊎◌, inl, inr, List, [], ◌∷◌, ◌++◌, Bool, true, false, cond, not, ℕ, suc, ◌%◌, ◌≤◌, ◌<◌, arith, length, eqb}
-use native.Mathlib.Decide.{ℕ_discrete, dec_lt}
+use Rattle.std.proofs.Math.Decide.{ℕ_discrete, dec_lt}
 use Rattle.disk.specs.Contents.{Among}
 use Rattle.journal_model.specs.Lists.{Ascending, without}
 use Rattle.journal_model.specs.Pages.{Body, start, done, State, plain, checkpoint, Page, replay, Shows, page_for, leaves, state_after}

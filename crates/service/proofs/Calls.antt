@@ -1,6 +1,6 @@
 -- Each call has an outcome.
 use Rattle.std.proofs.Common.{◌≡◌, refl, sym, ap, ◌∙◌, ◌⊎◌, inl, inr, List, [], ◌∷◌, Bool, true, false, ℕ, zero, suc, ◌+◌, ◌-◌, ◌≤◌, ◌<◌, arith, length}
-use native.Mathlib.Decide.{ℕ_discrete, dec_lt, dec_le}
+use Rattle.std.proofs.Math.Decide.{ℕ_discrete, dec_lt, dec_le}
 use Rattle.disk.specs.Contents.{Among}
 use Rattle.journal_model.specs.Pages.{Page}
 use Rattle.journal_model.specs.Runs.{Flight, none_in_flight, in_flight}

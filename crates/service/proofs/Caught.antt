@@ -1,6 +1,6 @@
 -- Where nothing is left to launch, all is launched.
 use Rattle.std.proofs.Common.{◌≡◌, refl, sym, ap, ◌∙◌, subst, inl, inr, [], ◌∷◌, ◌++◌, true, false, ℕ, suc, ◌-◌, ◌≤◌, ◌<◌, arith, length}
-use native.Mathlib.Decide.{dec_lt}
+use Rattle.std.proofs.Math.Decide.{dec_lt}
 use Rattle.disk.specs.Contents.{Among}
 use Rattle.journal_model.specs.Pages.{Body, State, leaves, state_after}
 use Rattle.journal_model.specs.Positions.{minute_of}

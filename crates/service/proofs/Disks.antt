@@ -1,6 +1,6 @@
 -- Disks that a format, a write and a sync can leave.
 use Rattle.std.proofs.Common.{◌≡◌, refl, sym, ap, ◌∙◌, subst, ◌⊎◌, inl, inr, [], ◌∷◌, cond, ℕ, eqb}
-use native.Mathlib.Decide.{ℕ_discrete}
+use Rattle.std.proofs.Math.Decide.{ℕ_discrete}
 use Rattle.disk.specs.Contents.{Among}
 use Rattle.journal_model.specs.Disks.{Seen, torn, no_page, page, Disk, Includes, Written, Synced, Formatted}
 use Rattle.journal_model.specs.Pages.{format_page}

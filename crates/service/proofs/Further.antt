@@ -1,6 +1,6 @@
 -- What more is kept: the horizon, the launcher, the finish slip, and the tickets open at the last restart.
 use Rattle.std.proofs.Common.{◌≡◌, refl, sym, ap, ◌∙◌, subst, ◌⊎◌, inl, inr, List, [], ◌∷◌, ◌++◌, ℕ, suc, ◌≤◌, length}
-use native.Mathlib.Decide.{ℕ_discrete}
+use Rattle.std.proofs.Math.Decide.{ℕ_discrete}
 use Rattle.disk.specs.Contents.{Among}
 use Rattle.journal_model.specs.Positions.{minute_of}
 use Rattle.page.specs.Sound.{SoundEnding}

@@ -1,6 +1,6 @@
 -- The invariant of a service.
 use Rattle.std.proofs.Common.{◌≡◌, refl, sym, ap, ◌∙◌, subst, List, [], ◌∷◌, ◌++◌, true, ℕ, ◌≤◌, ◌<◌, arith, length}
-use native.Mathlib.Decide.{dec_lt}
+use Rattle.std.proofs.Math.Decide.{dec_lt}
 use Rattle.disk.specs.Contents.{Among}
 use Rattle.journal_model.proofs.Sound.{Sound}
 use Rattle.journal_model.specs.Disks.{Disk}

@@ -1,5 +1,5 @@
 use Rattle.std.proofs.Common.{◌≡◌, refl, sym, ap, ◌∙◌, subst, ◌⊎◌, inl, inr, List, [], ◌∷◌, ◌++◌, Bool, true, false, cond, not, true≢false, ℕ, suc, ◌≤◌, arith, length, eqb, T, eqb→eq}
-use lib.Dec.{eqb_refl}
+use Rattle.std.proofs.Math.Dec.{eqb_refl}
 use Rattle.disk.proofs.Among.{among_snoc}
 use Rattle.journal_model.proofs.Lists.{among_keep}
 use Rattle.disk.specs.Contents.{Among}

@@ -1,6 +1,6 @@
 -- The small service, event by event: the determined calls are computed.
 use Rattle.std.proofs.Common.{◌≡◌, refl, sym, ap, ◌∙◌, subst, ◌⊎◌, inl, inr, List, [], ◌∷◌, ◌++◌, Bool, true, false, cond, ℕ, suc, ◌%◌, ◌<◌, arith, eqb}
-use native.Mathlib.Decide.{ℕ_discrete}
+use Rattle.std.proofs.Math.Decide.{ℕ_discrete}
 use Rattle.disk.specs.Contents.{Among}
 use Rattle.journal_model.specs.Disks.{Seen, torn, page, Disk, Includes, Written, Cut}
 use Rattle.journal_model.specs.Pages.{State, format_page}

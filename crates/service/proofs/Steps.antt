@@ -1,6 +1,6 @@
 -- Each call that alters the journal, the table or the launches keeps the invariant.
 use Rattle.std.proofs.Common.{◌≡◌, refl, sym, ap, ◌∙◌, subst, ◌⊎◌, inl, inr, List, [], ◌∷◌, ◌++◌, Bool, true, not, ℕ, suc, ◌%◌, ◌≤◌, ◌<◌, arith, length, eqb}
-use native.Mathlib.Decide.{ℕ_discrete}
+use Rattle.std.proofs.Math.Decide.{ℕ_discrete}
 use Rattle.disk.specs.Contents.{Among}
 use Rattle.journal_model.proofs.Sound.{sound_sync, sound_write}
 use Rattle.journal_model.specs.Disks.{page, Disk, Written, Synced}

@@ -1,6 +1,6 @@
 -- The table as its tickets and a stage for each.
 use Rattle.std.proofs.Common.{◌≡◌, refl, sym, ap, ◌∙◌, subst, inl, inr, List, [], ◌∷◌, ◌++◌, Bool, true, false, cond, ℕ, ◌<◌, arith, eqb}
-use native.Mathlib.Decide.{ℕ_discrete}
+use Rattle.std.proofs.Math.Decide.{ℕ_discrete}
 use Rattle.disk.specs.Contents.{Among}
 use Rattle.journal_model.specs.Lists.{Ascending, keep}
 use Rattle.journal_model.proofs.Lists.{among_keep}

@@ -1,6 +1,6 @@
 -- Tests, and slips and flights that differ.
 use Rattle.std.proofs.Common.{◌≡◌, refl, sym, ap, subst, inl, inr, Bool, true, false, cond, not, ℕ, ◌≤◌, ◌<◌, arith, leb, ltb, T, ltb→lt, nltb→le, lt→ltb, leb→le, le→leb}
-use lib.Dec.{nleb→lt}
+use Rattle.std.proofs.Math.Dec.{nleb→lt}
 use Rattle.journal_model.specs.Pages.{Page}
 use Rattle.journal_model.specs.Runs.{Flight, none_in_flight, in_flight}
 use Rattle.page.specs.declared.head.Ending.{Ending}

@@ -1,6 +1,6 @@
 -- Every call has an outcome, so any number of rounds can follow.
 use Rattle.std.proofs.Common.{◌≡◌, refl, sym, subst, ◌⊎◌, inl, inr, List, [], ◌∷◌, ℕ, zero, suc, ◌+◌, ◌*◌, ◌%◌, ◌≤◌, ◌<◌, max, arith}
-use native.Mathlib.Decide.{ℕ_discrete, dec_lt}
+use Rattle.std.proofs.Math.Decide.{ℕ_discrete, dec_lt}
 use Rattle.disk.specs.Contents.{Among}
 use Rattle.journal_model.specs.Disks.{page}
 use Rattle.journal_model.specs.Pages.{Page}

@@ -1,5 +1,4 @@
 // Questions about the calendar.
-use crate::text::FORM;
 use calendar::{Date, date_of, weekday_of};
 use cases::{Program, parsed};
 use std::alloc::Global;
@@ -12,10 +11,6 @@ pub(crate) struct Dates;
 impl Program for Dates {
     fn label(&self) -> &str {
         "date.txt "
-    }
-
-    fn form(&self) -> &str {
-        FORM
     }
 
     // Answers `DAY` with `YEAR MONTH DAY WEEKDAY`.

@@ -4,7 +4,7 @@ ghost use Rattle.crontab.specs.Job.{wild};
 ghost use Rattle.schedule.specs.Match.{matches as matches_label};
 ghost use Rattle.time_table.specs.Least.{Least};
 
-use crate::text::{FORM, entries};
+use crate::text::entries;
 use crate::zones::write_code;
 use cases::{Program, parsed, parted};
 use crontab::Job;
@@ -31,11 +31,7 @@ fn least_due(job: &Job, window: Window) -> Option<Label>
     if !job.is_wild() {
         return least_match(job, window);
     }
-    if matches(job, parts_of(window.to)) {
-        Some(window.to)
-    } else {
-        None
-    }
+    matches(job, parts_of(window.to)).then_some(window.to)
 }
 
 // Why a line has no label.
@@ -82,10 +78,6 @@ pub(crate) struct Dues;
 impl Program for Dues {
     fn label(&self) -> &str {
         "due.txt "
-    }
-
-    fn form(&self) -> &str {
-        FORM
     }
 
     // Answers `TABLE | FIELDS | u`.

@@ -5,9 +5,6 @@ use std::io;
 use time::Minute;
 use zone::Entry;
 
-// How a case has to be written.
-pub(crate) const FORM: &str = "a case is not written as it should be";
-
 // The entry `MINUTE:OFFSET`. A minute that cannot be counted becomes the greatest, which no table takes either.
 fn entry(text: &str) -> io::Result<Entry> {
     let (minute, offset) = parted(text, ":")?;

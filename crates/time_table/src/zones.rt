@@ -1,5 +1,5 @@
 // Questions about zones: the offset at a minute, and when it changes next.
-use crate::text::{FORM, entries};
+use crate::text::entries;
 use cases::{Program, parsed, parted};
 use std::alloc::Global;
 use std::io::Write;
@@ -58,10 +58,6 @@ impl Program for Offsets {
         "zone.txt "
     }
 
-    fn form(&self) -> &str {
-        FORM
-    }
-
     // Answers `TABLE u`.
     fn answer(&self, heap: Global, out: &mut Vec<u8>, question: &str) -> io::Result<()> {
         let (table, u) = parted(question, " ")?;
@@ -92,10 +88,6 @@ pub(crate) struct Joins;
 impl Program for Joins {
     fn label(&self) -> &str {
         "join.txt "
-    }
-
-    fn form(&self) -> &str {
-        FORM
     }
 
     // Answers `FIRST SECOND t u`, of two tables that are joined at minute `t`.

@@ -16,7 +16,13 @@ pub(crate) enum Refusal {
 impl fmt::Display for Refusal {
     fn fmt<W: fmt::Write>(&self, f: &mut fmt::Formatter<W>) -> fmt::Result {
         match self {
-            Refusal::Line(line) => write!(f, "refused 24 {line}"),
+            Refusal::Line(line) => {
+                let code = zone::Code {
+                    number: 24,
+                    beside: *line,
+                };
+                write!(f, "{code}")
+            }
             Refusal::Zone(code) => write!(f, "{code}"),
             Refusal::Crontab(code) => write!(f, "{code}"),
             Refusal::Minute(minute) => write!(f, "refused 13 {minute}"),

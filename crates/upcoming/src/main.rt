@@ -42,7 +42,7 @@ fn list(heap: Global, out: &mut Vec<u8>, bytes: &[u8]) -> Result<(), Fault> {
     let zone = TableZone::checked(script.entries.as_slice())?;
     let taken = crontab::read(heap, script.crontab)?;
     let span = rows::span_of(script.from, script.to)?;
-    rows::write_rows(out, &zone, taken.jobs(), span)
+    Ok(rows::write_rows(out, &zone, taken.jobs(), span)?)
 }
 
 fn main(rt: HostRuntime) -> ExitCode {

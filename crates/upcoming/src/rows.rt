@@ -1,34 +1,34 @@
 // The rows: which lines are due at which minutes.
-ghost use Rattle.std.specs.Prelude.{◌≡◌, true, false, MatchResult};
+ghost use Rattle.std.specs.Prelude.{◌≡◌, false, MatchResult};
 ghost use Rattle.time.specs.Limits.{served as is_served};
 ghost use Rattle.upcoming.specs.declared.fault.Refusal.TheVariants.{Minute as NoMinute};
 
-use crate::fault::{Fault, Refusal};
+use crate::fault::Refusal;
 use calendar::{MINUTES_A_DAY, date_of};
 use crontab::Job;
 use schedule::Moment;
-use std::fmt;
 use std::io::Write;
-use time::Minute;
-use zone::{Label, Zone, label_at};
+use std::{fmt, io};
+use time::{Minute, Served, Told};
+use zone::{Label, Zone, label_in};
 
 // The minutes from `from` to `to`, both among them.
-#[derive(Clone, Copy)]
+#[derive(Clone, Copy, Debug, PartialEq, Eq)]
 pub(crate) struct Span {
-    from: u32,
-    to: u32,
+    from: Served,
+    to: Served,
 }
 
 // A minute at which a line can be due.
-fn served(count: u64) -> Result<u32, Refusal>
+fn served(count: u64) -> Result<Served, Refusal>
     ensures { MatchResult result
-        (λ u. (u ≡ count) × (is_served count ≡ true))
+        (λ s. s.minute.0 ≡ count)
         (λ e. (e ≡ NoMinute count) × (is_served count ≡ false)) }
 {
-    match u32::try_from(count) {
-        Ok(u) if Minute::new(u).is_served() => Ok(u),
-        _ => Err(Refusal::Minute(count)),
-    }
+    u32::try_from(count)
+        .ok()
+        .and_then(|u| Served::new(Minute::new(u)))
+        .ok_or(Refusal::Minute(count))
 }
 
 pub(crate) fn span_of(from: u64, to: u64) -> Result<Span, Refusal> {
@@ -52,10 +52,10 @@ impl fmt::Display for Clock {
     }
 }
 
-fn write_row<Z: Zone>(out: &mut Vec<u8>, z: &Z, line: usize, minute: Minute) -> Result<(), Fault> {
-    let u = minute.count();
-    let clock = Clock(label_at(z, minute)?);
-    Ok(writeln!(out, "{line} {u} {clock}")?)
+fn write_row<Z: Zone>(out: &mut Vec<u8>, z: &Z, line: usize, minute: Served) -> io::Result<()> {
+    let u = minute.minute().count();
+    let clock = Clock(label_in(z, Told::from(minute)));
+    writeln!(out, "{line} {u} {clock}")
 }
 
 // The rows of the lines that are due at `minute`, and how many they are.
@@ -63,9 +63,9 @@ fn write_minute<Z: Zone>(
     out: &mut Vec<u8>,
     z: &Z,
     jobs: &[Job],
-    minute: Minute,
-) -> Result<u64, Fault> {
-    let moment = Moment::at(z, minute)?;
+    minute: Served,
+) -> io::Result<u64> {
+    let moment = Moment::within(z, minute);
     let mut due = 0u64;
     for (line, job) in jobs.iter().enumerate() {
         if moment.is_due(job) {
@@ -82,11 +82,11 @@ pub(crate) fn write_rows<Z: Zone>(
     z: &Z,
     jobs: &[Job],
     span: Span,
-) -> Result<(), Fault> {
+) -> io::Result<()> {
     let mut due = 0u64;
-    for u in span.from..=span.to {
-        due = due.saturating_add(write_minute(out, z, jobs, Minute::new(u))?);
+    for u in span.from.minute().count()..=span.to.minute().count() {
+        let minute = Served::new(Minute::new(u)).unwrap();
+        due = due.saturating_add(write_minute(out, z, jobs, minute)?);
     }
-    writeln!(out, "due {due}")?;
-    Ok(())
+    writeln!(out, "due {due}")
 }
