@@ -30,7 +30,7 @@ impl fmt::Display for Date {
 }
 
 // A year, and how many days of it have passed.
-#[derive(Clone, Copy)]
+#[derive(Clone, Copy, Debug, PartialEq, Eq)]
 struct Passed {
     year: u32,
     days: u32,
@@ -63,7 +63,7 @@ fn year_of(n: u32) -> Passed
     ensures same { from_month 11 result.year 1 result.days ≡ date n }
     ensures bound { result.days < 366 }
 {
-    // A while: a range needs a last year, and none is known.
+    // A while: a range would name a last year (1970 + n / 365 is late enough) for the proof alone, and be no plainer.
     let mut year = 1970;
     let mut days = n;
     'years: while days >= days_in_year(year) {

@@ -3,7 +3,7 @@ use disks::Unmade;
 use std::{fmt, io};
 
 // What is refused of an image: its size, or its journal.
-#[derive(Clone, Copy)]
+#[derive(Clone, Copy, Debug, PartialEq, Eq)]
 pub(crate) enum Refusal {
     Disk(disks::Code),
     Journal(journal::Code),

@@ -1,16 +1,17 @@
-// The rows: the pages that a restart replays, and what they leave.
+// The rows: the pages that a restart replays, and what they leave. They are written and not displayed as a whole: each
+// page is read as its row comes.
 use crate::fault::Fault;
 use disk::Disk;
-use journal::{BadPage, Refusal, Restarted, read_page};
+use journal::{BadPage, Refusal, Restarted, block_of, first_replayed, read_page};
 use journal_state::State;
-use page::{CHECKPOINT_EACH, Event, Head, MOST_OPEN};
+use page::{Event, Head, MOST_OPEN};
 use position_text::AsTicket;
 use std::io::Write;
 use std::{fmt, io};
 use time::{Minute, Position};
 
 // A page as a row.
-#[derive(Clone, Copy)]
+#[derive(Clone, Copy, Debug, PartialEq, Eq)]
 struct Row(Head);
 
 impl fmt::Display for Row {
@@ -34,8 +35,8 @@ impl fmt::Display for Row {
 // The pages from the last checkpoint at or below the top, up to the top.
 fn write_pages<D: Disk>(out: &mut Vec<u8>, disk: &D, top: u32) -> Result<(), Fault> {
     let mut place = [Position::start_of(Minute::new(0)); MOST_OPEN];
-    for page in top - top % CHECKPOINT_EACH..=top {
-        let block = page as usize % disk.block_count();
+    for page in first_replayed(top)..=top {
+        let block = block_of(disk, page);
         let head = read_page(disk, page, &mut place).map_err(|cause| Refusal::BadPage(BadPage {
             page,
             block,

@@ -7,7 +7,7 @@ use fields::Values;
 use std::fmt;
 
 // The numbers from `first` to `last`, both among them.
-#[derive(Clone, Copy)]
+#[derive(Clone, Copy, Debug, PartialEq, Eq)]
 pub(crate) struct Run {
     pub(crate) first: u32,
     pub(crate) last: u32,

@@ -8,7 +8,7 @@ use fields::{Field, FieldSet, read_field};
 use scan::{Kind, scan};
 
 // A line by its number, from 1, the place where it begins in the file, and its bytes.
-#[derive(Clone, Copy)]
+#[derive(Clone, Copy, PartialEq, Eq, Debug)]
 pub(crate) struct Line<'a> {
     pub number: usize,
     pub start: usize,
@@ -39,6 +39,7 @@ impl<'a> Line<'a> {
             (λ e. (length self.entry.text.now ≤ begin self.entry.text.now at)
             × (e ≡ missing_at self.entry.number self.entry.text.now)) }
     {
+        // By scan: find has no place to begin at.
         let begin = scan(self.text, at, Kind::Other);
         if begin >= self.text.len() {
             return Err(Refusal::Missing(self.place(self.text.len() + 1)));
@@ -116,6 +117,7 @@ impl<'a> Line<'a> {
         if self.text.len() > LONGEST_LINE {
             return Err(Refusal::LineTooLong(self.place(LONGEST_LINE + 1)));
         }
+        // By scan: tried with find, and then the four answers below it do not close by themselves.
         let forbidden = scan(self.text, 0, Kind::Forbidden);
         if forbidden < self.text.len() {
             return Err(Refusal::ForbiddenByte(self.place(forbidden + 1)));

@@ -13,7 +13,7 @@ fn rest_of(s: &[u8], n: usize) -> &[u8]
 }
 
 // What is left of a file: the number of its first line, the place where that begins, and the bytes.
-#[derive(Clone, Copy)]
+#[derive(Clone, Copy, PartialEq, Eq, Debug)]
 pub(crate) struct Lines<'a> {
     pub number: usize,
     pub start: usize,

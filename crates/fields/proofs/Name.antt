@@ -1,60 +1,77 @@
 -- A name in a list of names, by its place there.
-use Rattle.std.proofs.Common.{◌≡◌, ℕ, suc, ◌+◌, ◌<◌, Bool, true, false, cond, ◌&&◌, eqb, List, [], ◌∷◌, length, get_or, Some, Option, refl, ap, ◌∙◌, sym, arith, nat_eq, eq-eqb}
-use Rattle.std.proofs.Math.Bool.{and-true}
+use Rattle.std.proofs.Common.{◌≡◌, ℕ, suc, ◌+◌, ◌<◌, Bool, true, false, cond, ◌&&◌, eqb, List, [], ◌∷◌, map, drop, length, get_or, Some, None, Option, refl, ap, ◌∙◌, arith}
+use Rattle.std.proofs.Math.Bool.{and-true, and-false}
 use Rattle.std.specs.Char.{to_ascii_lowercase}
-use Rattle.std.specs.Cmp.Lexicographic.{pointwise}
+use Rattle.std.specs.Str.{bytes_eq, str_eq_ignore_ascii_case}
 use Rattle.std.specs.List.{position, position_from}
 use Rattle.std.specs.Option.{option_map}
 use Rattle.std.proofs.lemmas.Bool.Decides.{nat_tests}
 use Rattle.std.proofs.lemmas.Iterator.Adapters.{position_from-zero}
 use Rattle.fields.specs.Names.{named, lower, name_in, spells}
 
-pub lower_same : (x : ℕ) → to_ascii_lowercase x ≡ lower x
-lower_same x = grind (arith, nat_tests)
+same_letter : (x y : ℕ) → eqb (to_ascii_lowercase x) y ≡ eqb y (lower x)
+same_letter x y = grind (arith, nat_tests)
+
+cond_same : (t : Bool) (o : Option ℕ) → o ≡ cond t o o
+cond_same true o = refl
+cond_same false o = refl
 
 -- each name of a list has three letters
 abbrev pub Threes : List (List ℕ) → Type 0
 Threes ns = (i : ℕ) → i < length ns → length (get_or ns i []) ≡ 3
 
-module _ (a b c : ℕ) where
-  -- is a name the word of these letters?
-  abbrev pub is_word : List ℕ → Bool
-  is_word n = pointwise nat_eq n (a ∷ b ∷ c ∷ [])
+module _ (e : List ℕ) where
+  -- the letters that a word of three has in lower case
+  abbrev a : ℕ
+  a = lower (get_or e 0 0)
 
-  spells_word : (n : List ℕ) → length n ≡ 3 → spells n a b c ≡ is_word n
-  spells_word [] h = absurd (omega arith)
-  spells_word (x ∷ []) h = absurd (omega arith)
-  spells_word (x ∷ y ∷ []) h = absurd (omega arith)
-  spells_word (x ∷ y ∷ z ∷ []) h = ap (λ (t : Bool). eqb x a && (eqb y b && t)) (sym (and-true (eqb z c)))
-  spells_word (x ∷ y ∷ z ∷ w ∷ ws) h = absurd (omega arith)
+  abbrev b : ℕ
+  b = lower (get_or e 1 0)
 
-  named_from : (k j : ℕ) (ns : List (List ℕ)) → Threes ns →
-      named (k + j) ns a b c ≡ option_map (λ i. k + i) (position_from is_word j ns)
-  named_from k j [] h = refl
-  named_from k j (n ∷ ns) h =
-      rw (spells_word n (h 0 (omega arith)))
-      (go (is_word n) (named_from k (j + 1) ns (λ i l. h (suc i) (omega arith))))
+  abbrev c : ℕ
+  c = lower (get_or e 2 0)
+
+  -- is a name the word, in either case?
+  abbrev is_word : List ℕ → Bool
+  is_word = str_eq_ignore_ascii_case e
+
+  spelled : (s : List ℕ) (x y z : ℕ) → bytes_eq (map to_ascii_lowercase s) (x ∷ y ∷ z ∷ [])
+      ≡ eqb (length s) 3 && spells (x ∷ y ∷ z ∷ []) (lower (get_or s 0 0)) (lower (get_or s 1 0)) (lower (get_or s 2 0))
+  spelled [] x y z = refl
+  spelled (p ∷ []) x y z = and-false _
+  spelled (p ∷ q ∷ []) x y z = rw (and-false (eqb (to_ascii_lowercase q) y)) (and-false _)
+  spelled (p ∷ q ∷ r ∷ []) x y z =
+      rw (and-true (eqb (to_ascii_lowercase r) z)) (λ i. same_letter p x i && (same_letter q y i && same_letter r z i))
+  spelled (p ∷ q ∷ r ∷ s ∷ ss) x y z =
+      let far : eqb (suc (suc (suc (suc (length ss))))) 3 ≡ false = grind (arith, nat_tests) in
+      rw (far, and-false (eqb (to_ascii_lowercase r) z), and-false (eqb (to_ascii_lowercase q) y)) (and-false _)
+
+  spells_word : (n : List ℕ) → length n ≡ 3 → map to_ascii_lowercase n ≡ n → is_word n ≡ eqb (length e) 3 && spells n a b c
+  spells_word [] h l = absurd (omega arith)
+  spells_word (x ∷ []) h l = absurd (omega arith)
+  spells_word (x ∷ y ∷ []) h l = absurd (omega arith)
+  spells_word (x ∷ y ∷ z ∷ []) h l = ap (bytes_eq (map to_ascii_lowercase e)) l ∙ spelled e x y z
+  spells_word (x ∷ y ∷ z ∷ w ∷ ws) h l = absurd (omega arith)
+
+  named_from : (k j : ℕ) (ns : List (List ℕ)) → Threes ns → map (map to_ascii_lowercase) ns ≡ ns →
+      option_map (λ i. k + i) (position_from is_word j ns) ≡ cond (eqb (length e) 3) (named (k + j) ns a b c) None
+  named_from k j [] h l = cond_same (eqb (length e) 3) None
+  named_from k j (n ∷ ns) h l =
+      rw (spells_word n (h 0 (omega arith)) (ap (λ (ms : List (List ℕ)). get_or ms 0 []) l))
+      (go (eqb (length e) 3) (spells n a b c) (named_from k (j + 1) ns (λ i m. h (suc i) (omega arith)) (ap (drop 1) l)))
     where
-      go : (t : Bool) → named (k + (j + 1)) ns a b c ≡ option_map (λ i. k + i) (position_from is_word (j + 1) ns) →
-          cond t (Some (k + j)) (named (k + j + 1) ns a b c)
-          ≡ option_map (λ i. k + i) (cond t (Some j) (position_from is_word (j + 1) ns))
-      go true ih = refl
-      go false ih = let q : k + j + 1 ≡ k + (j + 1) = omega arith in rw q ih
+      go : (t u : Bool) → option_map (λ i. k + i) (position_from is_word (j + 1) ns) ≡ cond t (named (k + (j + 1)) ns a b c) None
+          → option_map (λ i. k + i) (cond (t && u) (Some j) (position_from is_word (j + 1) ns))
+          ≡ cond t (cond u (Some (k + j)) (named (k + j + 1) ns a b c)) None
+      go true true ih = refl
+      go true false ih = let q : k + j + 1 ≡ k + (j + 1) = omega arith in rw q ih
+      go false u ih = ih
 
-  pub named_found : (k : ℕ) (ns : List (List ℕ)) → Threes ns →
-      named k ns a b c ≡ option_map (λ i. k + i) (position is_word ns)
-  named_found k ns h =
-      let q : k ≡ k + 0 = omega arith in
-      ap (λ (m : ℕ). named m ns a b c) q
-      ∙ named_from k 0 ns h
-      ∙ sym (ap (option_map (λ i. k + i)) (position_from-zero is_word ns))
-
--- the number of a word, by where its lower case is found
-pub name_at : (k : ℕ) (ns : List (List ℕ)) (e : List ℕ) (x y z : ℕ) (o : Option ℕ) → Threes ns → length e ≡ 3 →
-    x ≡ to_ascii_lowercase (get_or e 0 0) → y ≡ to_ascii_lowercase (get_or e 1 0) → z ≡ to_ascii_lowercase (get_or e 2 0) →
-    o ≡ position (is_word x y z) ns → option_map (λ i. k + i) o ≡ name_in k ns e
-name_at k ns e x y z o h l p q r f =
-    ap (option_map (λ i. k + i)) f
-    ∙ sym (named_found x y z k ns h)
-    ∙ (λ i. named k ns ((p ∙ lower_same (get_or e 0 0)) i) ((q ∙ lower_same (get_or e 1 0)) i) ((r ∙ lower_same (get_or e 2 0)) i))
-    ∙ rw (eq-eqb (length e) 3 l) refl
+  -- the number of a word, by where it is found
+  pub name_found : (k : ℕ) (ns : List (List ℕ)) → Threes ns → map (map to_ascii_lowercase) ns ≡ ns →
+      option_map (λ i. k + i) (position is_word ns) ≡ name_in k ns e
+  name_found k ns h l =
+      let q : k + 0 ≡ k = omega arith in
+      ap (option_map (λ i. k + i)) (position_from-zero is_word ns)
+      ∙ named_from k 0 ns h l
+      ∙ ap (λ (m : ℕ). cond (eqb (length e) 3) (named m ns a b c) None) q

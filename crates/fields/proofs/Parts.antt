@@ -1,13 +1,11 @@
 -- A field's elements, one after the other.
 use Rattle.std.proofs.Common.{◌≡◌, ℕ, suc, ◌+◌, ◌<◌, Bool, true, false, cond, ◌&&◌, ◌||◌, eqb, List, [], ◌∷◌, length, Some, None, Ok, Err, sym, refl, ap, ◌∙◌, arith, lt-ltb, ltb-true, ltb-false, take_all, length-drop}
-use Rattle.std.proofs.Math.Bool.{or_assoc, or_comm}
 use Rattle.std.proofs.Math.Dec.{leb-suc-suc}
-use Rattle.fields.specs.declared.element.Span.{Span}
 use Rattle.fields.specs.declared.element.Field.{Field}
 use Rattle.fields.specs.declared.element.Field.TheVariants.{Minute, Hour, Day, Month, Weekday}
 use Rattle.fields.specs.declared.reader.BadElement.{BadElement}
 use Rattle.fields.specs.Bytes.{find_in, has, front, back, split}
-use Rattle.fields.specs.Values.{standing, verdict, after, taken, takes, first_bad, any_takes, field_bad, field_set, field_reading, unless}
+use Rattle.fields.specs.Values.{standing, verdict, after, first_bad, field_bad, field_set, field_reading, unless}
 
 -- the first part, and the parts of the rest
 pub split_step : (b : ℕ) (s : List ℕ) → split b s ≡ front b s ∷ cond (has b s) (split b (back b s)) []
@@ -33,31 +31,13 @@ split_last s h =
     ∙ ap (λ (b : Bool). front 44 s ∷ cond b (split 44 (back 44 s)) []) h
     ∙ ap (λ (l : List ℕ). l ∷ []) (take_all (find_in 44 s) s (ltb-false (find_in 44 s) (length s) h))
 
--- the first element e of a field's bytes s, and those after it
-module _ (f : Field) (s e : List ℕ) (es : List (List ℕ)) (parts : split 44 s ≡ e ∷ es) where
-  -- one that is refused is the first bad one
-  pub bad_here : (at : ℕ) (b : BadElement) → (verdict f e ≡ Err b.fault) × (b.at ≡ at) → first_bad f at (split 44 s) ≡ Some b
-  bad_here at b (q, w) =
-      ap (first_bad f at) parts
-      ∙ ap (λ v. after v at (first_bad f (at + (length e + 1)) es)) q
-      ∙ (λ i. Some (record { fault = b.fault; at = sym w i }))
-
-  -- one that is taken is passed over by the search for a bad one
-  pub bad_next : (at to : ℕ) (x : Span) → verdict f e ≡ Ok x → at + (length e + 1) ≡ to → first_bad f at (split 44 s) ≡ first_bad f to es
-  bad_next at to x q w =
-      ap (first_bad f at) parts
-      ∙ ap (λ v. after v at (first_bad f (at + (length e + 1)) es)) q
-      ∙ ap (λ (n : ℕ). first_bad f n es) w
-
-  -- and its numbers join those of the elements before
-  pub any_next : (k : ℕ) (x : Span) (new old all : Bool) → verdict f e ≡ Ok x → new ≡ (takes x k || old)
-      → (old || any_takes f (split 44 s) k) ≡ all → (new || any_takes f es k) ≡ all
-  any_next k x new old all q n g =
-      ap (λ (b : Bool). b || any_takes f es k) n
-      ∙ ap (λ (b : Bool). b || any_takes f es k) (or_comm (takes x k) old)
-      ∙ or_assoc old (takes x k) (any_takes f es k)
-      ∙ ap (λ (b : Bool). old || b) (sym (ap (λ (l : List (List ℕ)). any_takes f l k) parts ∙ ap (λ v. taken v k || any_takes f es k) q))
-      ∙ g
+-- the first element e of those that are left, l, is the first bad one if it is refused
+pub bad_here : (f : Field) (l : List (List ℕ)) (e : List ℕ) (es : List (List ℕ)) → l ≡ e ∷ es → (at : ℕ) (b : BadElement) →
+    (verdict f e ≡ Err b.fault) × (b.at ≡ at) → first_bad f at l ≡ Some b
+bad_here f l e es parts at b (q, w) =
+    ap (first_bad f at) parts
+    ∙ ap (λ v. after v at (first_bad f (at + (length e + 1)) es)) q
+    ∙ (λ i. Some (record { fault = b.fault; at = sym w i }))
 
 -- what follows the first comma is shorter by what stands before it and the comma
 pub back_length : (s m : List ℕ) → has 44 s ≡ true → m ≡ back 44 s → find_in 44 s + 1 + length m ≡ length s

@@ -1,4 +1,5 @@
 pub mod Bytes
 pub mod Names
 pub mod Element
+pub mod Elements
 pub mod Values

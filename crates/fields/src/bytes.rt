@@ -1,10 +1,10 @@
 // Parts of a field's bytes, with their place in the field.
 ghost use Rattle.std.specs.Prelude.{◌≡◌, ◌+◌, ◌^◌, ◌<◌, length};
 
-use scan::{Kind, scan};
+use scan::{Kind, find};
 
 // Bytes of a field and the place where they begin in it.
-#[derive(Clone, Copy)]
+#[derive(Clone, Copy, PartialEq, Eq, Debug)]
 pub(crate) struct Part<'a> {
     pub at: usize,
     pub text: &'a [u8],
@@ -24,19 +24,15 @@ impl<'a> Part<'a> {
             × (piece q.0 ≡ front_piece b (piece self.entry))
             × (piece q.1 ≡ back_piece b (piece self.entry))) }
     {
-        let i = scan(self.text, 0, Kind::Byte(b));
-        if i < self.text.len() {
-            let front = Part {
-                at: self.at,
-                text: &self.text[..i],
-            };
-            let back = Part {
-                at: self.at + (i + 1),
-                text: &self.text[i + 1..],
-            };
-            Some((front, back))
-        } else {
-            None
-        }
+        let i = find(self.text, Kind::Byte(b))?;
+        let front = Part {
+            at: self.at,
+            text: &self.text[..i],
+        };
+        let back = Part {
+            at: self.at + (i + 1),
+            text: &self.text[i + 1..],
+        };
+        Some((front, back))
     }
 }

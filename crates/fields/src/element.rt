@@ -56,7 +56,7 @@ impl Field {
 }
 
 // An element, by the parts of the field that it is written with.
-#[derive(Clone, Copy)]
+#[derive(Clone, Copy, PartialEq, Eq, Debug)]
 pub(crate) enum Element<'a> {
     Star,
     Each(Part<'a>),

@@ -2,6 +2,7 @@
 
 mod bytes;
 mod element;
+mod elements;
 mod names;
 mod number;
 mod reader;

@@ -1,6 +1,7 @@
 // The names of months and weekdays: their first three letters, in either case.
-ghost use Rattle.std.specs.Prelude.{◌≡◌, ◌+◌, ◌<◌, length, position, nat_eq};
-ghost use Rattle.std.specs.Cmp.Lexicographic.{pointwise};
+ghost use Rattle.std.specs.Prelude.{◌≡◌, ◌+◌, ◌<◌, length, map, position};
+ghost use Rattle.std.specs.Char.{to_ascii_lowercase};
+ghost use Rattle.std.specs.Str.{str_eq_ignore_ascii_case};
 ghost use Rattle.fields.specs.Names.{name_in};
 
 pub(crate) const MONTHS: [[u8; 3]; 12] = [
@@ -12,25 +13,21 @@ pub(crate) const WEEKDAYS: [[u8; 3]; 7] = [
     *b"sun", *b"mon", *b"tue", *b"wed", *b"thu", *b"fri", *b"sat",
 ];
 
-fn find_name(names: &[[u8; 3]], word: [u8; 3]) -> Option<usize>
-    ensures { result ≡ position (λ n. pointwise nat_eq n word) names.now }
+// The place of the name that a word spells.
+fn find_name(names: &[[u8; 3]], word: &[u8]) -> Option<usize>
+    ensures { result ≡ position (str_eq_ignore_ascii_case word.now) names.now }
 {
-    names.iter().position(|name| *name == word)
+    names
+        .iter()
+        .position(|name| word.eq_ignore_ascii_case(name))
 }
 
 // The number of a name in a list that counts from `first`.
-pub(crate) fn name_number(names: &[[u8; 3]], first: u8, e: &[u8]) -> Option<u8>
-    requires { first + length names.now < 256 }
-    ensures { result ≡ name_in first names.now e.now }
+pub(crate) fn name_number(names: &[[u8; 3]], first: u8, word: &[u8]) -> Option<u8>
+    requires fits { first + length names.now < 256 }
+    requires lower { map (map to_ascii_lowercase) names.now ≡ names.now }
+    ensures { result ≡ name_in first names.now word.now }
 {
-    let [a, b, c] = e else {
-        return None;
-    };
-    let word = [
-        a.to_ascii_lowercase(),
-        b.to_ascii_lowercase(),
-        c.to_ascii_lowercase(),
-    ];
     let i = find_name(names, word)?;
     Some(first + i as u8)
 }

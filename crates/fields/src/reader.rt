@@ -5,6 +5,7 @@ ghost use Rattle.fields.specs.Values.{field_reading, judged, standing, starred a
 
 use crate::bytes::Part;
 use crate::element::{Field, Span, read_span};
+use crate::elements::Elements;
 use crate::values::Values;
 
 // Why an element is refused.
@@ -75,13 +76,9 @@ pub fn read_field(f: Field, s: &[u8]) -> Result<FieldSet, BadElement>
     ensures within { IfErr result (λ b. b.at ≤ length s.now) }
 {
     let mut numbers = Values::none();
-    let mut rest = Part { at: 0, text: s };
-    // A while: std's split gives the elements without their places.
-    while let Some((e, more)) = rest.cut(b',') {
-        numbers.add(read_element(f, e)?);
-        rest = more;
+    for element in Elements::of(s) {
+        numbers.add(read_element(f, element)?);
     }
-    numbers.add(read_element(f, rest)?);
     Ok(FieldSet {
         values: stood_for(f, numbers),
         starred: is_starred(s),

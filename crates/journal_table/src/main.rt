@@ -36,6 +36,7 @@ fn block_of(digits: &str) -> Option<[u8; PAGE_SIZE]> {
     <[u8; PAGE_SIZE] as FromHex>::from_hex(without_capitals(digits)?).ok()
 }
 
+// Each test program reads its own file: a call that they shared for that could promise nothing.
 fn run(rt: &HostRuntime) -> io::Result<()> {
     let cases = fs::read_to_string(rt, "page.txt")?;
     let heap = rt.alloc();

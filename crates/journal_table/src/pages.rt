@@ -6,7 +6,7 @@ use std::{fmt, io};
 use time::{Minute, Position};
 
 // What happened, with the page's number: kind, number, ticket and code.
-#[derive(Clone, Copy)]
+#[derive(Clone, Copy, Debug, PartialEq, Eq)]
 struct Happened(Head);
 
 impl fmt::Display for Happened {

@@ -31,6 +31,7 @@ fn before_due<Z: Zone>(zone: &Z, jobs: &[Job], from: Position, count: u32) -> u3
 {
     let mut line = from.line();
     let mut examined = 0;
+    // A for, and no `find_map`: what a minute begins with, `line` and `examined`, is what the one before it left.
     for u in from.minute().count()..last_examined(from, count) as u32 + 1 {
         let minute = Served::new(Minute::new(u)).unwrap();
         let n = lines_left(line, count - examined);

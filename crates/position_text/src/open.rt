@@ -7,7 +7,7 @@ use std::fmt;
 use time::Position;
 
 // Positions after the first, each with a comma before it.
-#[derive(Clone, Copy)]
+#[derive(Clone, Copy, Debug, PartialEq, Eq)]
 struct Rest<'a>(&'a [Position]);
 
 impl<'a> fmt::Display for Rest<'a> {
@@ -23,7 +23,7 @@ impl<'a> fmt::Display for Rest<'a> {
 }
 
 // `(MINUTE:LINE,MINUTE:LINE)`, the tickets in brackets and parted by commas.
-#[derive(Clone, Copy)]
+#[derive(Clone, Copy, Debug, PartialEq, Eq)]
 pub struct AsOpen<'a>(pub &'a [Position]);
 
 impl<'a> fmt::Display for AsOpen<'a> {

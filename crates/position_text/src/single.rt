@@ -6,7 +6,7 @@ use std::fmt;
 use time::Position;
 
 // `MINUTE:LINE`.
-#[derive(Clone, Copy)]
+#[derive(Clone, Copy, Debug, PartialEq, Eq)]
 pub struct AsPosition(pub Position);
 
 impl fmt::Display for AsPosition {
@@ -20,7 +20,7 @@ impl fmt::Display for AsPosition {
 }
 
 // `LINE MINUTE`.
-#[derive(Clone, Copy)]
+#[derive(Clone, Copy, Debug, PartialEq, Eq)]
 pub struct AsTicket(pub Position);
 
 impl fmt::Display for AsTicket {

@@ -1,4 +1,4 @@
-// What the reader of crontabs answers to a file, as text.
+// What the reader of crontabs answers to a file, as text: written, since reading may want memory, which no display tells.
 use crontab::{Crontab, Job};
 use fields::{FieldSet, Values};
 use std::alloc::Global;

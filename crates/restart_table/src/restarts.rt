@@ -21,7 +21,7 @@ fn block_of(digits: &str) -> io::Result<[u8; PAGE_SIZE]> {
 }
 
 // A block that a question names: what it holds, or none where it is torn.
-#[derive(Clone, Copy)]
+#[derive(Clone, Copy, Debug, PartialEq, Eq)]
 struct Named {
     index: usize,
     content: Option<[u8; PAGE_SIZE]>,

@@ -31,14 +31,15 @@ impl Kind {
     }
 }
 
-// The place of the first byte of a kind.
-fn find(s: &[u8], kind: Kind) -> Option<usize>
+// The place of the first byte of a kind, if there is one.
+pub fn find(s: &[u8], kind: Kind) -> Option<usize>
     ensures { result ≡ position (is kind) s.now }
 {
     s.iter().position(|x| kind.has(*x))
 }
 
-// The place of the first byte of a kind at or after `from`, or the text's end.
+// The place of the first byte of a kind at or after `from`, or the text's end. No Option: a line's last word ends
+// there, and so does a file's last line. For what may be missing there is find.
 pub fn scan(s: &[u8], from: usize, kind: Kind) -> usize
     ensures value { result ≡ from + before_first (is kind) (drop from s.now) }
     ensures bound { from ≤ length s.now → result ≤ length s.now }

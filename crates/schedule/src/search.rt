@@ -17,6 +17,7 @@ fn search<Z: Zone>(z: &Z, jobs: &[Job], from: Position, before: Minute) -> Optio
     ensures { NextDue (due_line (Z.offsets z.now) jobs.now) (rank from) before.0 result }
 {
     let mut line = from.line();
+    // A for, and no `find_map`: the first minute begins at the line of `from`, each after it at line 0.
     for u in from.minute().count()..before.count() {
         let minute = Minute::new(u);
         let moment = Moment::within(z, Served::new(minute).unwrap());

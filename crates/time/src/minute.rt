@@ -1,6 +1,6 @@
 // Whole minutes since 1970-01-01 00:00 UTC.
 ghost use Rattle.std.specs.Prelude.{◌≡◌};
-ghost use Rattle.time.specs.Limits.{served as is_served, told as is_told};
+ghost use Rattle.time.specs.Limits.{served as is_served, told as is_told, within};
 
 use crate::limits::{FIRST_MINUTE, FIRST_TOLD, LAST_MINUTE};
 
@@ -21,17 +21,24 @@ impl Minute {
         self.0
     }
 
-    // Does a zone tell of it? This test and the next are one comparison each; `MinuteFrom` has what they share.
+    // Does it lie from `first` on, up to the last?
+    pub(crate) fn is_within(self, first: u32) -> bool
+        ensures { result ≡ within first self.0 }
+    {
+        first <= self.0 && self.0 <= LAST_MINUTE
+    }
+
+    // Does a zone tell of it?
     pub fn is_told(self) -> bool
         ensures { result ≡ is_told self.0 }
     {
-        FIRST_TOLD <= self.0 && self.0 <= LAST_MINUTE
+        self.is_within(FIRST_TOLD)
     }
 
     // Can a line be due or an offset change at it?
     pub fn is_served(self) -> bool
         ensures { result ≡ is_served self.0 }
     {
-        FIRST_MINUTE <= self.0 && self.0 <= LAST_MINUTE
+        self.is_within(FIRST_MINUTE)
     }
 }

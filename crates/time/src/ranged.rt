@@ -2,7 +2,7 @@
 ghost use Rattle.std.specs.Prelude.{◌≡◌, true, false, MatchOption};
 ghost use Rattle.time.specs.Limits.{within as is_within};
 
-use crate::limits::{FIRST_MINUTE, FIRST_TOLD, LAST_MINUTE};
+use crate::limits::{FIRST_MINUTE, FIRST_TOLD};
 use crate::minute::Minute;
 
 // A minute from `FIRST` on, up to the last.
@@ -23,7 +23,7 @@ impl<const FIRST: u32> MinuteFrom<FIRST> {
     pub fn new(minute: Minute) -> Option<MinuteFrom<FIRST>>
         ensures { MatchOption result (is_within FIRST minute.0 ≡ false) (λ m. m.minute ≡ minute) }
     {
-        if FIRST <= minute.count() && minute.count() <= LAST_MINUTE {
+        if minute.is_within(FIRST) {
             Some(MinuteFrom { minute })
         } else {
             None

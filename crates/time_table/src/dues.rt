@@ -35,7 +35,7 @@ fn least_due(job: &Job, window: Window) -> Option<Label>
 }
 
 // Why a line has no label.
-#[derive(Clone, Copy)]
+#[derive(Clone, Copy, Debug, PartialEq, Eq)]
 enum Fault {
     Refused(Refusal),
     // the line is due and no label says so, or the other way round

@@ -1,4 +1,5 @@
-// Questions about zones: the offset at a minute, and when it changes next.
+// Questions about zones: the offset at a minute, and when it changes next. An answer is one of several values, each of
+// which displays itself.
 use crate::text::entries;
 use cases::{Program, parsed, parted};
 use std::alloc::Global;
@@ -9,7 +10,7 @@ use zone::{Code, Entry, Refusal, TableZone, Zone};
 use zone_join::Join;
 
 // What a zone says of a minute.
-#[derive(Clone, Copy)]
+#[derive(Clone, Copy, Debug, PartialEq, Eq)]
 struct Told {
     offset: i32,
     next: Option<Minute>,

@@ -3,7 +3,7 @@ use std::alloc::AllocFailed;
 use std::{fmt, io};
 
 // What is refused of a script.
-#[derive(Clone, Copy)]
+#[derive(Clone, Copy, Debug, PartialEq, Eq)]
 pub(crate) enum Refusal {
     // a line before the crontab, counted from 1
     Line(usize),

@@ -1,4 +1,5 @@
-// The rows: which lines are due at which minutes.
+// The rows: which lines are due at which minutes. They are written and not displayed as a whole: each minute is looked
+// up as its rows come.
 ghost use Rattle.std.specs.Prelude.{◌≡◌, false, MatchResult};
 ghost use Rattle.time.specs.Limits.{served as is_served};
 ghost use Rattle.upcoming.specs.declared.fault.Refusal.TheVariants.{Minute as NoMinute};
@@ -39,7 +40,7 @@ pub(crate) fn span_of(from: u64, to: u64) -> Result<Span, Refusal> {
 }
 
 // What a local clock shows, as `YYYY-MM-DD HH:MM`.
-#[derive(Clone, Copy)]
+#[derive(Clone, Copy, Debug, PartialEq, Eq)]
 struct Clock(Label);
 
 impl fmt::Display for Clock {

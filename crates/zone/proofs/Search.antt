@@ -1,9 +1,12 @@
 -- In a table without fault the place of u tells the offset in force and the next change.
-use Rattle.std.proofs.Common.{◌≡◌, ℕ, zero, suc, ◌-◌, ◌<◌, ◌≤◌, true, false, leb, leb-true, leb-false, List, [], ◌∷◌, length, get_or, take, ap, ◌-ℤ◌, nat_abs, Some, None, Option, sym, refl, ◌∙◌, sub-one, arith}
+use Rattle.std.proofs.Common.{◌≡◌, ℕ, zero, suc, ◌-◌, ◌<◌, ◌≤◌, true, false, leb, leb-true, leb-false, List, [], ◌∷◌, length, get_or, take, ap, ◌-ℤ◌, nat_abs, pos, ℤ, Bor, MatchOption, IsSomeAnd, Some, None, Option, sym, refl, ◌∙◌, sub-one, arith}
 use Rattle.std.proofs.lemmas.Int.{ints}
 use Rattle.std.proofs.lemmas.List.{get_or-take, length-take-le}
 use Rattle.std.proofs.lemmas.List.Sorted.{IsNonDecreasingBy-from_default, IsPartitionedBy-leb}
+use Rattle.std.specs.Option.{option_map, unwrap_or}
+use Rattle.std.specs.List.{HoldsAt}
 use Rattle.std.specs.List.Sorted.{IsNonDecreasingBy, IsPartitionedBy, IsPartitionPoint}
+use Rattle.time.specs.declared.minute.Minute.{Minute}
 use Rattle.zone.specs.declared.entry.Entry.{Entry}
 use Rattle.zone.specs.Offsets.{NextChange}
 use Rattle.zone.specs.Table.{blank, in_force, table_offset, Parts}
@@ -138,19 +141,30 @@ offset_of (e ∷ es) u zero g s h = absurd (omega arith)
 offset_of (e ∷ es) u (suc k) g s h =
     rw sub-one (first e es u g.0 ∙ offset_there e es u k g.2 (rest e es u k s))
 
--- by the last entry that holds by u
+-- by the last entry that holds by u, or `blank` where none does
 pub offset_at_last :
-    (es : List Entry) (u r : ℕ) (e : Entry) →
+    (es : List Entry) (u r : ℕ) →
     Good es →
     Parts es u r →
-    0 < length (take r es) →
-    e ≡ get_or (take r es) (length (take r es) - 1) blank →
-    e.offset ≡ table_offset es u
-offset_at_last es u r e g s some is =
-    let long = length-take-le r es s.within in
-    let last : e ≡ get_or es (r - 1) blank =
-    is ∙ ap (λ n. get_or (take r es) (n - 1) blank) long ∙ get_or-take r es (r - 1) blank (omega (arith, long)) in
-    ap (λ (x : Entry). x.offset) last ∙ sym (offset_of es u r g s (omega (arith, long)))
+    (get_or (take r es) (length (take r es) - 1) blank).offset ≡ table_offset es u
+offset_at_last [] u zero g s = refl
+offset_at_last [] u (suc k) g s = absurd (let w = s.within in omega arith)
+offset_at_last (e ∷ es) u zero g s = absurd (let z = g.0 in let h = s.after (omega arith) in omega arith)
+offset_at_last (e ∷ es) u (suc k) g s =
+    let long = length-take-le (suc k) (e ∷ es) s.within in
+    let last = get_or-take (suc k) (e ∷ es) (suc k - 1) blank (omega arith) in
+    ap (λ n. (get_or (take (suc k) (e ∷ es)) (n - 1) blank).offset) long
+    ∙ ap (λ (x : Entry). x.offset) last
+    ∙ sym (offset_of (e ∷ es) u (suc k) g s (omega arith))
+
+-- a number that is 0 of no entry, and the offset of any other
+pub offset_or :
+    {P : Bor Entry → Type 0} (o : Option (Bor Entry)) (x : ℤ) →
+    MatchOption o (x ≡ pos 0) P →
+    ((e : Bor Entry) → P e → x ≡ e.now.offset) →
+    x ≡ (unwrap_or (option_map (λ e. e.now) o) blank).offset
+offset_or None x m h = m
+offset_or (Some e) x m h = h e m
 
 pub next_of :
     (es : List Entry) (u r : ℕ) →
@@ -164,12 +178,26 @@ next_of (e ∷ es) u (suc k) g s =
     (λ w a. first e es w g.0)
     (next_there e es u k g.2 (rest e es u k s))
 
-pub at_place_some : (es : List Entry) (r : ℕ) → r < length es → at_place es r ≡ Some (get_or es r blank).minute.0
+at_place_some : (es : List Entry) (r : ℕ) → r < length es → at_place es r ≡ Some (get_or es r blank).minute.0
 at_place_some [] r h = absurd (omega arith)
 at_place_some (e ∷ es) zero h = refl
 at_place_some (e ∷ es) (suc r) h = at_place_some es r (omega arith)
 
-pub at_place_none : (es : List Entry) (r : ℕ) → length es ≤ r → at_place es r ≡ None
+at_place_none : (es : List Entry) (r : ℕ) → length es ≤ r → at_place es r ≡ None
 at_place_none [] r h = refl
 at_place_none (e ∷ es) zero h = absurd (omega arith)
 at_place_none (e ∷ es) (suc r) h = at_place_none es r (omega arith)
+
+-- the minute of the entry at r, as `map` gives it of what `get` found
+pub at_place_mapped :
+    {P : Bor Entry → Minute → Type 0} (o : Option (Bor Entry)) (m : Option Minute) (es : List Entry) (r : ℕ) →
+    MatchOption o (m ≡ None) (λ e. IsSomeAnd m (P e)) →
+    ((e : Bor Entry) (x : Minute) → P e x → x ≡ e.now.minute) →
+    MatchOption o (length es ≤ r) (λ e. (r < length es) × HoldsAt (λ x. e.now ≡ x) es r) →
+    at_place es r ≡ option_map (λ x. x.0) m
+at_place_mapped None m es r f h i = at_place_none es r i ∙ sym (ap (option_map (λ (x : Minute). x.0)) f)
+at_place_mapped (Some e) None es r f h i = absurd f
+at_place_mapped (Some e) (Some x) es r f h i =
+    at_place_some es r i.0
+    ∙ ap (λ (y : Entry). Some y.minute.0) (sym (i.1 blank))
+    ∙ ap (λ (y : Minute). Some y.0) (sym (h e x f))

@@ -20,6 +20,7 @@ pub use labels::Labels;
 pub use limits::{LEAST_APART, MOST_CHANGE};
 pub use refusal::Refusal;
 pub use refusal_code::Code;
+pub use rules::is_day_later;
 pub use table::Checked;
 pub use table_zone::TableZone;
 pub use told::{change_after, is_told, label_at, label_in, minute_from, offset_in};

@@ -14,8 +14,8 @@ fn is_near(offset: i32) -> bool
     offset.unsigned_abs() <= MOST_OFFSET
 }
 
-// Is `m` at least a day after `p`?
-fn is_day_later(p: Minute, m: Minute) -> bool
+// Does minute `m` come a day or more after minute `p`?
+pub fn is_day_later(p: Minute, m: Minute) -> bool
     ensures { result ≡ day_later p.0 m.0 }
 {
     u64::from(m.count()) >= u64::from(p.count()) + u64::from(LEAST_APART)

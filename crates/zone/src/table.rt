@@ -54,18 +54,16 @@ impl<'a> TableZone<'a> {
     fn offset_by(&self, u: u32) -> i32
         ensures { result ≡ table_offset self.now.entries.now u }
     {
-        match self.entries[..self.place_of(u)].last() {
-            Some(entry) => entry.offset,
-            None => 0,
-        }
+        self.entries[..self.place_of(u)]
+            .last()
+            .map_or(0, |entry| entry.offset)
     }
 
     // The minute of the first entry after minute `u`, at which the offset changes.
     fn change_after(&self, u: u32) -> Option<Minute>
         ensures { NextChange (table_offset self.now.entries.now) u (option_map (λ m. m.0) result) }
     {
-        let entry = self.entries.get(self.place_of(u))?;
-        Some(entry.minute)
+        self.entries.get(self.place_of(u)).map(|entry| entry.minute)
     }
 }
 

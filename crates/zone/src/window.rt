@@ -32,8 +32,8 @@ fn highest_before<Z: Zone>(z: &Z, u: Served) -> Label
     ensures { result.0 ≡ reached (Z.offsets z.now) u.minute.0 }
 {
     let mut top = Label::new(0);
-    for k in 0..LOOK_BACK {
-        top = label_in(z, earlier(u, k + 1)).max(top);
+    for k in 1..=LOOK_BACK {
+        top = label_in(z, earlier(u, k)).max(top);
     }
     top
 }

@@ -37,7 +37,7 @@ impl<A: Zone, B: Zone> Join<A, B> {
             b: &self.b,
             room,
         };
-        if seam.is_lawful() { Some(seam) } else { None }
+        seam.is_lawful().then_some(seam)
     }
 
     // Can the two be joined?
@@ -55,10 +55,7 @@ impl<A: Zone, B: Zone> Join<A, B> {
             (B.Zone.offsets self.now.b)
             self.now.t }
     {
-        if self.is_taken() {
-            return None;
-        }
-        Some(Refusal::BadJoin(self.t))
+        (!self.is_taken()).then_some(Refusal::BadJoin(self.t))
     }
 }
 

@@ -7,8 +7,9 @@ use crate::limits::{FIRST_JOIN, LAST_JOIN};
 use time::{Minute, Told};
 use zone::LEAST_APART;
 
-// A minute with room on both sides.
-#[derive(Clone, Copy)]
+// A minute with room on both sides. Its own type, and no `MinuteFrom`: that type, of another crate, can have no methods
+// here, and with functions for them it would be no plainer.
+#[derive(Clone, Copy, Debug, PartialEq, Eq)]
 pub(crate) struct Room {
     t: Minute,
     ghost roomy: { is_roomy t.0 ≡ true },

@@ -9,6 +9,7 @@ use crate::smooth::is_smooth;
 use time::{Minute, Told};
 use zone::{Zone, change_after, offset_in};
 
+// Clone and Copy alone: zones have no Debug and no PartialEq.
 #[derive_where(Clone, Copy)]
 pub(crate) struct Seam<'a, A: Zone, B: Zone> {
     pub(crate) a: &'a A,

@@ -4,13 +4,13 @@ ghost use Rattle.std.specs.Option.{option_map};
 ghost use Rattle.zone_join.specs.Joined.{clear, late, smooth};
 
 use time::Minute;
-use zone::{LEAST_APART, MOST_CHANGE};
+use zone::{MOST_CHANGE, is_day_later};
 
 // Is the change `w`, if there is one, a day or more after `s`?
 fn is_late(s: Minute, w: Option<Minute>) -> bool
     ensures { result ≡ late s.0 (option_map (λ m. m.0) w) }
 {
-    w.is_none_or(|w| u64::from(w.count()) >= u64::from(s.count()) + u64::from(LEAST_APART))
+    w.is_none_or(|w| is_day_later(s, w))
 }
 
 // Do changes lie a day apart around `t`, where the offset changes by `change`?
