@@ -7,13 +7,9 @@ use std::{fmt, io};
 
 // The values as a number with bit `v` set for each value `v`.
 fn mask(values: &Values) -> u64 {
-    let mut bits = 0;
-    for v in 0..64u32 {
-        if values.contains(v) {
-            bits |= 1u64 << v;
-        }
-    }
-    bits
+    (0..64u32)
+        .filter(|v| values.contains(*v))
+        .fold(0, |bits, v| bits | 1u64.wrapping_shl(v))
 }
 
 fn fields_of(job: &Job) -> [FieldSet; 5] {
