@@ -29,8 +29,8 @@ fn first_held(values: &Values, from: u32) -> Option<u32>
     ensures { MatchOption result
         (same false values.now from 64)
         (λ v. (from ≤ v) × (v < 64)
-        × same false values.now from v
-        × (held values.now v ≡ true)) }
+        × (held values.now v ≡ true)
+        × same false values.now from v) }
 {
     (from..64).find(|v| values.contains(*v))
 }

@@ -1,9 +1,10 @@
 -- The join of two zones at t: the first before t, the second from t on. A refused join means the first zone alone.
-use Rattle.std.specs.Prelude.{ℕ, zero, suc, ◌+◌, ◌-◌, Bool, true, false, cond, ◌&&◌, ◌||◌, ℤ, Some, None, Option, ◌==◌, nat_le, nat_lt, unsigned_abs}
+use Rattle.std.specs.Prelude.{ℕ, zero, suc, ◌-◌, Bool, true, false, cond, ◌&&◌, ◌||◌, ℤ, Some, None, Option, ◌==◌, nat_le, nat_lt, unsigned_abs}
 use Rattle.time.specs.Limits.{first_told, last_minute}
 use Rattle.time.specs.declared.minute.Minute.{Minute}
 use Rattle.zone.specs.Limits.{most_offset, most_change, least_apart}
 use Rattle.zone.specs.Offsets.{change}
+use Rattle.zone.specs.Table.{day_later}
 use Rattle.zone.specs.declared.refusal.Refusal.{Refusal}
 use Rattle.zone.specs.declared.refusal.Refusal.TheVariants.{BadJoin}
 use Rattle.zone_join.specs.Limits.{first_join, last_join}
@@ -56,7 +57,7 @@ join_refusal f g t = cond (accepts f g t.0) None (Some (BadJoin t))
 -- w, the first change after some minute, is a day or more after s
 abbrev pub late : ℕ → Option ℕ → Bool
 late s None = true
-late s (Some w) = nat_le (s + least_apart) w
+late s (Some w) = day_later s w
 
 -- changes lie a day apart around t, where the offset changes by d:
 -- v is the first change of the first zone after the day before t, and w that of the second after t
