@@ -20,41 +20,46 @@ fn block_of(digits: &str) -> io::Result<[u8; PAGE_SIZE]> {
     Ok(block)
 }
 
-// A block that a question names: what it holds, or none where it is torn.
+// A block that a question names: what it holds, in hexadecimal, or none where it is torn.
 #[derive(Clone, Copy, Debug, PartialEq, Eq)]
-struct Named {
-    index: usize,
-    content: Option<[u8; PAGE_SIZE]>,
+struct Named<'a> {
+    index: &'a str,
+    digits: Option<&'a str>,
 }
 
 // The block `INDEX:HEX` or `INDEX:torn`.
-fn block_named(text: &str) -> io::Result<Named> {
+fn block_named(text: &str) -> io::Result<Named<'_>> {
     let (index, content) = parted(text, ":")?;
     Ok(Named {
-        index: parsed(index)?,
-        content: if content == "torn" {
-            None
-        } else {
-            Some(block_of(content)?)
-        },
+        index,
+        digits: (content != "torn").then_some(content),
     })
 }
 
 // Writes the blocks that hold something, so that they last, and tears the others: these are being written when the
-// power fails.
-fn fill(disk: &mut HoldingDisk, blocks: &[Named]) {
-    for block in blocks {
-        if let Some(bytes) = &block.content {
-            disk.write(block.index, bytes);
+// power fails. The text is gone through twice, so that no list of the blocks takes memory.
+fn fill(disk: &mut HoldingDisk, blocks: &str) -> io::Result<()> {
+    for block in blocks.split(',').map(block_named) {
+        if let Named {
+            index,
+            digits: Some(digits),
+        } = block?
+        {
+            disk.write(parsed(index)?, &block_of(digits)?);
         }
     }
     disk.sync();
-    for block in blocks {
-        if block.content.is_none() {
-            disk.write(block.index, &[0; PAGE_SIZE]);
+    for block in blocks.split(',').map(block_named) {
+        if let Named {
+            index,
+            digits: None,
+        } = block?
+        {
+            disk.write(parsed(index)?, &[0; PAGE_SIZE]);
         }
     }
     disk.cut_to(Fate::Torn);
+    Ok(())
 }
 
 // What a restart found, as `TOP NEXT OPEN`.
@@ -100,8 +105,7 @@ pub(crate) fn write_restart(heap: Global, out: &mut Vec<u8>, question: &str) -> 
         Err(unmade) => return write_unmade(out, unmade),
     };
     if blocks != "-" {
-        let blocks: Vec<Named> = blocks.split(',').map(block_named).try_collect(heap)?;
-        fill(&mut disk, blocks.as_slice());
+        fill(&mut disk, blocks)?;
     }
     match restart(heap, &disk, parsed(lines)?) {
         Ok(found) => {
