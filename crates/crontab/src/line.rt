@@ -80,7 +80,9 @@ impl<'a> Line<'a> {
         })
     }
 
-    // The line's job, or its first refusal from the left.
+    // The line's job, or its first refusal from the left. Not inlined: room for five fields would be made ready for
+    // each line, those without a job too.
+    #[inline(never)]
     #[tactic(auto, unfolding(crate::specs::Words::past))]
     fn job(self) -> Result<Job, Refusal>
         ensures { result ≡ job_reading self.entry.number self.entry.start self.entry.text.now }
