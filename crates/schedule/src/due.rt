@@ -9,18 +9,26 @@ ghost use Rattle.crontab.specs.Job.{wild};
 ghost use Rattle.schedule.specs.Due.{due_answer, due_in, DueMeans, FirstDue, line_due, some_of};
 ghost use Rattle.schedule.specs.Match.{matches as matches_label};
 
-use crate::matching::matches;
+use crate::matching::{is_match, matches};
 use crate::moment::Moment;
 use crate::parts::parts_of;
 use crontab::Job;
 use time::{Minute, Position, Served};
 use zone::{Refusal, Window, Zone, fresh_in, minute_from};
 
-// Does the line match one of the labels of the window?
+// Does the line match one of the labels of the window? Not inlined: mostly there are none, and then it is not called.
+#[inline(never)]
+fn any_of(job: &Job, window: Window) -> bool
+    ensures { result ≡ list_any (λ l. matches_label job.now l.0) (labels_of window) }
+{
+    window.labels().any(|label| is_match(job, label))
+}
+
+// The same, where it is seen first whether there are labels.
 fn any_matches(job: &Job, window: Window) -> bool
     ensures { result ≡ list_any (λ l. matches_label job.now l.0) (labels_of window) }
 {
-    window.labels().any(|label| matches(job, parts_of(label)))
+    window.above < window.to && any_of(job, window)
 }
 
 // How many lines the file has, and no more than `to`.

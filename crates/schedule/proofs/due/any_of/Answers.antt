@@ -4,7 +4,7 @@ use Rattle.std.proofs.lemmas.Iterator.Search.{any_from_yields_List}
 use Rattle.zone.specs.Labels.{labels_left, labels_of}
 use Rattle.zone.specs.declared.label.Label.{Label}
 use Rattle.schedule.specs.Match.{matches}
-use Rattle.schedule.proofs.due.any_matches.Goals as goal
+use Rattle.schedule.proofs.due.any_of.Goals as goal
 
 pub returns : goal.returns
 returns c =
