@@ -36,12 +36,20 @@ impl Program for Reader {
     }
 }
 
-// The bytes that the digits say, or none if they say no bytes; `-` stands for no byte at all.
+// Are these hexadecimal digits? By fold, and no all: with no way out between two of them many are tested at a time.
+fn are_digits(text: &str) -> bool {
+    text.as_bytes()
+        .iter()
+        .fold(true, |digits, b| digits & b.is_ascii_hexdigit())
+}
+
+// The bytes that the digits say, or none if they say no bytes, and then no memory is taken; `-` stands for no byte at
+// all.
 fn file_of(heap: Global, digits: &str) -> io::Result<Option<Vec<u8>>> {
     if digits == "-" {
         return Ok(Some(Vec::new(heap)));
     }
-    let Some(digits) = without_capitals(digits) else {
+    let Some(digits) = without_capitals(digits).filter(|digits| are_digits(digits)) else {
         return Ok(None);
     };
     match hex::decode(heap, digits) {
