@@ -52,5 +52,9 @@ pub fn examine<Z: Zone>(zone: &Z, jobs: &[Job], from: Position, count: u32) -> O
     if !is_within(from, count) {
         return None;
     }
+    if count == 0 {
+        // of no position, so not even the first minute is looked up
+        return Some(0);
+    }
     Some(before_due(zone, jobs, from, count))
 }
